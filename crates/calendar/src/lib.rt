@@ -1,0 +1,5 @@
+// Some years in a row: the first, and how many.
+pub struct Years {
+    pub first: u64,
+    pub count: u64,
+}

@@ -1,0 +1,136 @@
+-- Opening, line and close: answer, record and blocks after each call, for all inputs (document 01, Calls and both sections on stops).
+use mathlib.Core.Bool.{Bool, _&&_, not, cond}
+use mathlib.Core.List.{List, [], _∷_}
+use mathlib.Core.Option.{Option, some, none}
+use Prim.Native.Nat.{ℕ, _+_, _-_, _*_}
+use lib.Dec.{eqb}
+use lib.ListN.{set, getD}
+use lib.Seq.{sets}
+use Rattle.lists.specs.Lists.{tab}
+use Rattle.calendar.specs.declared.Years.{Years}
+use Rattle.calendar.specs.Spans.{positionOf}
+use Rattle.text.specs.Fields.{fieldAt}
+use Rattle.meaning.specs.Filing.{Site}
+use Rattle.meaning.specs.Line.{Line, Tag, S, C, X, D, P, B, R, rank, is, tagOf, numberAt, yearOn, monthOn, dayOn, siteOn, valueAt, pointOf, kindOf, keyOf, winterOn}
+use Rattle.meaning.specs.Refusals.{Reason, numberOf, refusal}
+use Rattle.meaning.specs.Level.{Report, reportOf, curveOf}
+use Rattle.meaning.specs.Closing.{Lack, lackNumber, closingRefusal}
+use Rattle.meaning.specs.Blocks.{World, sizesFit, freshWorld, codeOfPoint, letterOfKind, isNear, nearStart, farStart, slotsStart, slotAt}
+use Rattle.meaning.specs.Record.{Rec, Lasts, Tallies, inState, freshRec, isTaken, historyOfRec, axisOfRec, recFits, contentsFit, beforeOf, filingOf}
+
+-- ---- answers: a refusal has document 01's number and the count of lines
+pub data Answer : Type 0 where
+  took : Answer
+  refused : ℕ → ℕ → Answer
+  reports : Report → Answer
+
+pub record Out : Type 0 where
+  pub answer : Answer
+  pub after : Rec
+  pub world : World
+
+abbrev pub out : Answer → Rec → World → Out
+out a s w = record { answer = a; after = s; world = w }
+
+-- 1 and 13: record and blocks stay, and the count is the record's
+unfoldable pub leaves : ℕ → Rec → World → Out
+leaves n s w = out (refused n (s .count)) s w
+
+-- ---- opening: always allowed where the blocks have their sizes
+unfoldable pub openingOf : Rec → World → Out
+openingOf s w = cond (sizesFit w) (out took freshRec freshWorld) (leaves 1 s w)
+
+-- ---- what an accepted line changes in the record
+unfoldable pub lastsAfter : Tag → Line → Lasts → Lasts
+lastsAfter t l k = record {
+  c = cond (is C t) (keyOf C l) (k .c);
+  x = cond (is X t) (keyOf X l) (k .x);
+  d = cond (is D t) (keyOf D l) (k .d);
+  p = cond (is P t) (keyOf P l) (k .p);
+  b = cond (is B t) (keyOf B l) (k .b);
+  r = cond (is R t) (keyOf R l) (k .r);
+}
+
+-- one date more in the line's year
+unfoldable pub oneMore : Years → Line → List ℕ → List ℕ
+oneMore span l ns = set ns (yearOn l - span .first) (getD ns (yearOn l - span .first) 0 + 1)
+
+unfoldable pub talliesAfter : Years → Years → Tag → Line → Tallies → Tallies
+talliesAfter h axis t l k = record {
+  profileDates = cond (is P t) (oneMore h l (k .profileDates)) (k .profileDates);
+  dailyDates = cond (is D t) (oneMore axis l (k .dailyDates)) (k .dailyDates);
+  breaks = cond (is B t) (set (k .breaks) (yearOn l - h .first) 1) (k .breaks);
+  rates = cond (is R t) (set (k .rates) (yearOn l - h .first) (numberAt l 2)) (k .rates);
+}
+
+unfoldable pub recAfter : Tag → Line → Rec → Rec
+recAfter t l s = record {
+  state = s .state;
+  count = s .count + 1;
+  last = rank t;
+  site = cond (is S t) (siteOn l) (s .site);
+  readings = cond (is X t) (s .readings + 1) (s .readings);
+  lastIndex = cond (is X t) (numberAt l 4) (s .lastIndex);
+  lasts = lastsAfter t l (s .lasts);
+  tallies = talliesAfter (historyOfRec s) (axisOfRec s) t l (s .tallies);
+}
+
+-- ---- what it changes in the blocks: the places that it names
+unfoldable pub pointCodes : Line → List ℕ
+pointCodes l = tab 20 0 (λ h. codeOfPoint (pointOf l h))
+
+unfoldable pub profileValues : Line → List ℕ
+profileValues l = tab 20 0 (valueAt l)
+
+unfoldable pub positionOn : Years → Line → ℕ
+positionOn axis l = positionOf axis (yearOn l) (monthOn l) (dayOn l)
+
+unfoldable pub worldAfter : Tag → Line → Rec → World → World
+worldAfter t l s w = record {
+  near =
+    cond (is C t && isNear (s .site .al) (yearOn l))
+    (sets (w .near) (nearStart (s .site .al) (yearOn l) + slotAt (winterOn l) 0) (pointCodes l))
+    (w .near);
+  far =
+    cond (is C t && not (isNear (s .site .al) (yearOn l)))
+    (sets (w .far) (farStart (s .site .al) (yearOn l) + slotAt (winterOn l) 0) (pointCodes l))
+    (w .far);
+  slots = cond (is P t) (sets (w .slots) (slotsStart (historyOfRec s .first) (yearOn l) + slotAt (winterOn l) 0) (profileValues l)) (w .slots);
+  daily = cond (is D t) (set (w .daily) (positionOn (axisOfRec s) l) (numberAt l 4)) (w .daily);
+  positions = cond (is X t) (set (w .positions) (s .readings) (positionOn (axisOfRec s) l)) (w .positions);
+  indexes = cond (is X t) (set (w .indexes) (s .readings) (numberAt l 4)) (w .indexes);
+  kinds = cond (is X t) (set (w .kinds) (s .readings) (letterOfKind (kindOf (fieldAt l 5)))) (w .kinds);
+  curve = w .curve;
+}
+
+-- ---- line: 1, 13, then 2 to 12; a refusal by these marks the record refused and counts the line
+unfoldable pub judged : Option Reason → Rec → Line → World → Out
+judged none s l w = out took (recAfter (tagOf l) l s) (worldAfter (tagOf l) l s w)
+judged (some y) s l w = out (refused (numberOf y) (s .count + 1)) (inState 2 (s .count + 1) s) w
+
+unfoldable pub lineOf : Rec → Line → World → Out
+lineOf s l w =
+    cond (sizesFit w && recFits s) (cond (eqb (s .state) 1) (judged (refusal (beforeOf s) l) s l w) (leaves 13 s w)) (leaves 1 s w)
+
+-- ---- close: 1 with the blocks' contents, 13, then 14 to 18; else the curve is set and the record closed
+unfoldable pub withCurve : World → List ℕ → World
+withCurve w c = record {
+  near = w .near;
+  far = w .far;
+  slots = w .slots;
+  daily = w .daily;
+  positions = w .positions;
+  indexes = w .indexes;
+  kinds = w .kinds;
+  curve = c;
+}
+
+unfoldable pub closed : Option Lack → Rec → World → Out
+closed none s w = out (reports (reportOf (filingOf s w))) (inState 3 (s .count) s) (withCurve w (curveOf (filingOf s w)))
+closed (some k) s w = out (refused (lackNumber k) (s .count)) (inState 2 (s .count) s) w
+
+unfoldable pub closeOf : Rec → World → Out
+closeOf s w =
+    cond (sizesFit w && (recFits s && contentsFit s w))
+    (cond (eqb (s .state) 1) (closed (closingRefusal (filingOf s w)) s w) (leaves 13 s w))
+    (leaves 1 s w)

@@ -1,0 +1,17 @@
+pub mod Filing
+pub mod Validity
+pub mod Cases
+pub mod Points
+pub mod Level
+pub mod Exact
+pub mod Line
+pub mod Refusals
+pub mod File
+pub mod Closing
+pub mod Blocks
+pub mod Record
+pub mod Calls
+pub mod Sheet
+pub mod Input
+pub mod CallLists
+pub mod Demands

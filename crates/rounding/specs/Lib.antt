@@ -1,0 +1,4 @@
+pub mod Rounding
+pub mod Points
+pub mod Answers
+pub mod Examples
