@@ -1,3 +1,5 @@
 pub mod Dates
 pub mod Places
 pub mod Spans
+pub mod Answers
+pub mod Words

@@ -10,7 +10,7 @@ use Rattle.calendar.specs.declared.Years.{Years}
 use Rattle.calendar.specs.Dates.{isDate, isWinter}
 use Rattle.calendar.specs.Places.{datePlace, winterPlace}
 use Rattle.calendar.specs.Spans.{axisYears, among}
-use Rattle.text.specs.Fields.{upTo, past, tabs, fieldAt, reads}
+use Rattle.text.specs.Fields.{upTo, past, tabs, fieldAt, reads, edition as editionText}
 use Rattle.text.specs.Numbers.{isNumber, valueOf, isDash}
 use Rattle.meaning.specs.Filing.{Meter, noMeter, curveMeter, indexMeter, Site, site, Kind, real, corrected, estimated, strange}
 
@@ -100,10 +100,6 @@ size B = 2
 size R = 3
 size E = 2
 size other = 0
-
--- CF_96E/11
-unfoldable pub editionText : List ℕ
-editionText = 67 ∷ 70 ∷ 95 ∷ 57 ∷ 54 ∷ 69 ∷ 47 ∷ 49 ∷ 49 ∷ []
 
 -- T curve meter, I index meter
 unfoldable pub meterOfLetter : ℕ → Meter

@@ -43,3 +43,7 @@ peakStart y = sum (take (y - 2007) dayCounts)
 -- the year's peak days as winter places, in date order: its part of the table
 unfoldable pub peakDays : ℕ → List ℕ
 peakDays y = take (peakCount y) (drop (peakStart y) annex1)
+
+-- where the year's part begins: 0 where the year has none
+unfoldable pub partStart : ℕ → ℕ
+partStart y = cond (hasPeaks y) (peakStart y) 0

@@ -1,1 +1,5 @@
-// note
+// The operators' note: peak days and coefficients.
+mod annex1;
+pub mod coefficients;
+pub mod peaks;
+mod tables;

@@ -14,6 +14,11 @@ unfoldable pub past : List ℕ → List ℕ
 past [] = []
 past (x ∷ l) = cond (eqb x 9) l (past l)
 
+-- how many bytes stand before the first tab
+unfoldable pub tabAt : List ℕ → ℕ
+tabAt [] = 0
+tabAt (x ∷ l) = cond (eqb x 9) 0 (suc (tabAt l))
+
 -- how many tabs
 unfoldable pub tabs : List ℕ → ℕ
 tabs [] = 0
@@ -34,3 +39,7 @@ reads [] [] = true
 reads [] (y ∷ ys) = false
 reads (x ∷ xs) [] = false
 reads (x ∷ xs) (y ∷ ys) = eqb x y && reads xs ys
+
+-- the edition's text, CF_96E/11
+unfoldable pub edition : List ℕ
+edition = 67 ∷ 70 ∷ 95 ∷ 57 ∷ 54 ∷ 69 ∷ 47 ∷ 49 ∷ 49 ∷ []

@@ -22,6 +22,10 @@ valueFrom v (b ∷ f) = valueFrom (v * 10 + (b - 48)) f
 unfoldable pub valueOf : List ℕ → ℕ
 valueOf f = valueFrom 0 f
 
+-- stands for every number from there on: it is above each range that a field has
+abbrev pub most : ℕ
+most = 1_000_000_000_000_000_000
+
 -- the field `-`, a missing value
 unfoldable pub isDash : List ℕ → Bool
 isDash f = eqb (length f) 1 && eqb (getD f 0 0) 45

@@ -1,1 +1,15 @@
-// text
+// The text of a file's lines: fields parted by tabs, and what a field holds: a number, a dash or a fixed text.
+mod fields;
+mod numbers;
+
+pub use fields::after;
+pub use fields::field;
+pub use fields::is_edition;
+pub use fields::nth_field;
+pub use fields::past;
+pub use fields::reads;
+pub use fields::tab;
+pub use fields::tab_count;
+pub use numbers::is_dash;
+pub use numbers::is_number;
+pub use numbers::value;

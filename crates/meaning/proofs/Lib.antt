@@ -1,0 +1,3 @@
+pub mod Passed
+pub mod Accepted
+pub mod Held

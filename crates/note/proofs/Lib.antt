@@ -1,0 +1,5 @@
+pub mod Table
+pub mod PeakDays
+pub mod Annual
+pub mod Factors
+pub mod History

@@ -1,0 +1,290 @@
+-- Laws of fields and numbers: of a walk over a line's bytes, by what is true of the bytes from place i on, and the definitions in words.
+use mathlib.Core.Path.{_≡_, refl, ap, sym, _∙_}
+use mathlib.Core.Logic.{_↔_, _⊎_, inl, inr, ⊎-elim}
+use mathlib.Core.Bool.{Bool, true, false, not, _&&_, _||_, cond}
+use mathlib.Core.List.{List, [], _∷_, _++_}
+use Prim.Native.Nat.{ℕ, zero, suc, _+_, _-_, _*_, _≤_, _<_, min}
+use native.Mathlib.Numerals.{add-one}
+use native.Mathlib.Omega.{arith}
+use lib.Dec.{T, eqb, leb, ltb, eqb→eq, leb→le, le→leb, ltb→lt, lt→ltb}
+use lib.ListN.{length, take, drop, getD, drop-of-length-le, length-take, length-drop}
+use lib.Seq.{drop-cons, take-length}
+use borrow.Author.Tests.{eq-eqb, ne-eqb, eqb-true, eqb-false, leb-true, leb-false}
+use Rattle.lists.specs.Lists.{any, all, Each, each-nil, each-cons}
+use Rattle.lists.proofs.Laws.{same, is-true}
+use Rattle.lists.proofs.Reflect.{of-eq, of-le, of-and, of-or, of-not, of-all}
+use Rattle.text.specs.Fields.{upTo, past, tabAt, tabs, restAt, fieldAt, reads}
+use Rattle.text.specs.Numbers.{isDigit, isNumber, valueFrom, valueOf, isDash}
+
+-- ---- a walk: a test of some byte, and of each
+pub any-here : (p : ℕ → Bool) (l : List ℕ) (i : ℕ) → i < length l → p (getD l i 0) ≡ true → any p (drop i l) ≡ true
+unfolding any
+any-here p l i h e = rw (drop-cons l i 0 h) (simp e)
+
+pub any-on : (p : ℕ → Bool) (l : List ℕ) (i : ℕ) → i < length l → p (getD l i 0) ≡ false → any p (drop i l) ≡ any p (drop (i + 1) l)
+unfolding any
+any-on p l i h e = rw (drop-cons l i 0 h, add-one i) (simp e)
+
+pub any-end : (p : ℕ → Bool) (l : List ℕ) (i : ℕ) → length l ≤ i → any p (drop i l) ≡ false
+unfolding any
+any-end p l i h = simp (drop-of-length-le l h)
+
+pub all-here : (p : ℕ → Bool) (l : List ℕ) (i : ℕ) → i < length l → p (getD l i 0) ≡ false → all p (drop i l) ≡ false
+unfolding all
+all-here p l i h e = rw (drop-cons l i 0 h) (simp e)
+
+pub all-on : (p : ℕ → Bool) (l : List ℕ) (i : ℕ) → i < length l → p (getD l i 0) ≡ true → all p (drop i l) ≡ all p (drop (i + 1) l)
+unfolding all
+all-on p l i h e = rw (drop-cons l i 0 h, add-one i) (simp e)
+
+pub all-end : (p : ℕ → Bool) (l : List ℕ) (i : ℕ) → length l ≤ i → all p (drop i l) ≡ true
+unfolding all
+all-end p l i h = simp (drop-of-length-le l h)
+
+-- ---- a walk: the first tab, and the tabs
+pub tab-here : (l : List ℕ) (i : ℕ) → i < length l → getD l i 0 ≡ 9 → tabAt (drop i l) ≡ 0
+unfolding tabAt
+tab-here l i h e = rw (drop-cons l i 0 h) (simp (eq-eqb _ _ e))
+
+pub tab-on : (l : List ℕ) (i : ℕ) → i < length l → (getD l i 0 ≡ 9 → ⊥) → tabAt (drop i l) ≡ tabAt (drop (i + 1) l) + 1
+unfolding tabAt
+tab-on l i h e = rw (drop-cons l i 0 h) (simp (ne-eqb _ _ e, add-one))
+
+pub tab-end : (l : List ℕ) (i : ℕ) → length l ≤ i → tabAt (drop i l) ≡ 0
+unfolding tabAt
+tab-end l i h = simp (drop-of-length-le l h)
+
+pub tabs-here : (l : List ℕ) (i : ℕ) → i < length l → getD l i 0 ≡ 9 → tabs (drop i l) ≡ tabs (drop (i + 1) l) + 1
+unfolding tabs
+tabs-here l i h e = rw (drop-cons l i 0 h) (simp (eq-eqb _ _ e, add-one))
+
+pub tabs-on : (l : List ℕ) (i : ℕ) → i < length l → (getD l i 0 ≡ 9 → ⊥) → tabs (drop i l) ≡ tabs (drop (i + 1) l)
+unfolding tabs
+tabs-on l i h e = rw (drop-cons l i 0 h) (simp (ne-eqb _ _ e, add-one))
+
+pub tabs-end : (l : List ℕ) (i : ℕ) → length l ≤ i → tabs (drop i l) ≡ 0
+unfolding tabs
+tabs-end l i h = simp (drop-of-length-le l h)
+
+-- ---- the first field and what is past it, by the place of the first tab
+pub tab-le : (l : List ℕ) → tabAt l ≤ length l
+unfolding tabAt
+tab-le [] = omega arith
+tab-le (x ∷ l) = go (eqb x 9) (tab-le l)
+  where
+    go : (b : Bool) → tabAt l ≤ length l → cond b 0 (suc (tabAt l)) ≤ suc (length l)
+    go true e = omega arith
+    go false e = omega arith
+
+pub up-take : (l : List ℕ) → upTo l ≡ take (tabAt l) l
+unfolding upTo tabAt
+up-take [] = refl
+up-take (x ∷ l) = go (eqb x 9) (up-take l)
+  where
+    go : (b : Bool) → upTo l ≡ take (tabAt l) l → cond b [] (x ∷ upTo l) ≡ take (cond b 0 (suc (tabAt l))) (x ∷ l)
+    go true e = refl
+    go false e = ap (λ (r : List ℕ). x ∷ r) e
+
+pub past-drop : (l : List ℕ) → past l ≡ drop (tabAt l + 1) l
+unfolding past tabAt
+past-drop [] = refl
+past-drop (x ∷ l) = go (eqb x 9) (past-drop l)
+  where
+    go : (b : Bool) → past l ≡ drop (tabAt l + 1) l → cond b l (past l) ≡ drop (cond b 0 (suc (tabAt l)) + 1) (x ∷ l)
+    go true e = refl
+    go false e = rw add-one (rw add-one at e)
+
+-- to drop more than there is drops all
+pub drop-min : (n : ℕ) (l : List ℕ) → drop (min n (length l)) l ≡ drop n l
+drop-min n l = go (leb n (length l)) refl
+  where
+    go : (b : Bool) → leb n (length l) ≡ b → drop (min n (length l)) l ≡ drop n l
+    go true e =
+        let h : n ≤ length l = leb-true n (length l) e in
+        let k : min n (length l) ≡ n = omega arith in
+        rw k
+    go false e =
+        let h : length l < n = leb-false n (length l) e in
+        let k : min n (length l) ≡ length l = omega arith in
+        rw k (drop-of-length-le l {i = length l} (omega arith) ∙ sym (drop-of-length-le l {i = n} (omega arith)))
+
+pub past-min : (l : List ℕ) → drop (min (tabAt l + 1) (length l)) l ≡ past l
+past-min l = drop-min (tabAt l + 1) l ∙ sym (past-drop l)
+
+-- with no tab there is nothing past it
+pub past-none : (l : List ℕ) → length l ≤ tabAt l → past l ≡ []
+past-none l h = past-drop l ∙ drop-of-length-le l {i = tabAt l + 1} (omega arith)
+
+-- what `&t[a..]` holds
+pub rest-of : (t : List ℕ) (a : ℕ) → take (length t - a) (drop a t) ≡ drop a t
+rest-of t a = rw (← length-drop a t) (take-length (drop a t))
+
+-- ---- the caller's walk: e is where the first tab of t stands, k the place past it
+-- what `&t[..e]` holds, and that it is as long as it says
+pub first-of : (t : List ℕ) (e : ℕ) → e ≡ tabAt t → take e t ≡ upTo t
+first-of t e h = rw h (sym (up-take t))
+
+pub first-length : (t : List ℕ) (e : ℕ) → e ≡ tabAt t → e ≡ length (take e t)
+first-length t e h = simp length-take (omega (arith, tab-le t))
+
+-- what `&t[k..]` holds
+pub rest-past : (t : List ℕ) (e k : ℕ) → e ≡ tabAt t → k ≡ min (e + 1) (length t) → take (length t - k) (drop k t) ≡ past t
+rest-past t e k h g = rest-of t k ∙ rw (g, h) (past-min t)
+
+-- ---- a walk: numbers
+pub value-on : (v : ℕ) (l : List ℕ) (i : ℕ) → i < length l → valueFrom v (drop i l) ≡ valueFrom (v * 10 + (getD l i 0 - 48)) (drop (i + 1) l)
+unfolding valueFrom
+value-on v l i h = rw (drop-cons l i 0 h, add-one i)
+
+pub value-end : (v : ℕ) (l : List ℕ) (i : ℕ) → length l ≤ i → valueFrom v (drop i l) ≡ v
+unfolding valueFrom
+value-end v l i h = rw (drop-of-length-le l h)
+
+pub value-grows : (v : ℕ) (l : List ℕ) → v ≤ valueFrom v l
+unfolding valueFrom
+value-grows v [] = omega arith
+value-grows v (b ∷ l) = omega (arith, value-grows (v * 10 + (b - 48)) l)
+
+-- a number from n on stays there, whatever digits follow
+pub value-capped : (n v : ℕ) (l : List ℕ) → min (valueFrom (min v n) l) n ≡ min (valueFrom v l) n
+value-capped n v l = go (leb v n) refl
+  where
+    go : (b : Bool) → leb v n ≡ b → min (valueFrom (min v n) l) n ≡ min (valueFrom v l) n
+    go true e =
+        let h : v ≤ n = leb-true v n e in
+        let k : min v n ≡ v = omega arith in
+        rw k
+    go false e =
+        let h : n < v = leb-false v n e in
+        let k : min v n ≡ n = omega arith in
+        rw k (omega (arith, value-grows n l, value-grows v l))
+
+-- a test against a bound below n sees no difference
+pub leb-capped : (n v h : ℕ) → h < n → leb (min v n) h ≡ leb v h
+leb-capped n v h p = same (leb (min v n) h) (leb v h) (λ t. le→leb v h (omega (arith, leb→le (min v n) h t))) (λ t. le→leb (min v n) h (omega (arith, leb→le v h t)))
+
+pub ltb-capped : (n v h : ℕ) → h < n → ltb h (min v n) ≡ ltb h v
+ltb-capped n v h p = same (ltb h (min v n)) (ltb h v) (λ t. lt→ltb h v (omega (arith, ltb→lt h (min v n) t))) (λ t. lt→ltb h (min v n) (omega (arith, ltb→lt h v t)))
+
+pub eqb-capped : (n v h : ℕ) → h < n → eqb (min v n) h ≡ eqb v h
+eqb-capped n v h p = same (eqb (min v n) h) (eqb v h) (λ t. of-eq v h .1 (omega (arith, eqb→eq (min v n) h t))) (λ t. of-eq (min v n) h .1 (omega (arith, eqb→eq v h t)))
+
+-- ---- fields in words
+-- no byte of a field is a tab
+pub up-no-tab : (l : List ℕ) → Each (λ b. b ≡ 9 → ⊥) (upTo l)
+unfolding upTo
+up-no-tab [] = each-nil
+up-no-tab (x ∷ l) = go (eqb x 9) refl (up-no-tab l)
+  where
+    go : (b : Bool) → eqb x 9 ≡ b → Each (λ y. y ≡ 9 → ⊥) (upTo l) → Each (λ y. y ≡ 9 → ⊥) (cond b [] (x ∷ upTo l))
+    go true e r = each-nil
+    go false e r = each-cons {x = x} (eqb-false x 9 e) r
+
+-- a field and a tab stand in front of what is past them; with no tab the first field is the line
+pub line-parts : (l : List ℕ) → ((l ≡ upTo l) × (past l ≡ []) × (tabs l ≡ 0)) ⊎ ((l ≡ upTo l ++ (9 ∷ past l)) × (tabs l ≡ suc (tabs (past l))))
+unfolding upTo past tabs
+line-parts [] = inl (refl, refl, refl)
+line-parts (x ∷ l) = go (eqb x 9) refl (line-parts l)
+  where
+    Parts : List ℕ → List ℕ → List ℕ → ℕ → Type 0
+    Parts m f r n = ((m ≡ f) × (r ≡ []) × (n ≡ 0)) ⊎ ((m ≡ f ++ (9 ∷ r)) × (n ≡ suc (tabs r)))
+
+    go : (b : Bool) → eqb x 9 ≡ b → Parts l (upTo l) (past l) (tabs l) → Parts (x ∷ l) (cond b [] (x ∷ upTo l)) (cond b l (past l)) (cond b (suc (tabs l)) (tabs l))
+    go true e p = inr (ap (λ (y : ℕ). y ∷ l) (eqb-true x 9 e), refl)
+    go false e p = ⊎-elim (λ w. inl (ap (λ (m : List ℕ). x ∷ m) (w .0), w .1, w .2)) (λ w. inr (ap (λ (m : List ℕ). x ∷ m) (w .0), w .1)) p
+
+-- a text with no tab is a field, alone or before a tab
+pub up-alone : (f : List ℕ) → Each (λ b. b ≡ 9 → ⊥) f → (upTo f ≡ f) × (past f ≡ [])
+unfolding upTo past
+up-alone [] each-nil = (refl, refl)
+up-alone (x ∷ f) (each-cons h r) = let k = up-alone f r in rw (ne-eqb x 9 h) (ap (λ (m : List ℕ). x ∷ m) (k .0), k .1)
+
+pub up-joined : (f r : List ℕ) → Each (λ b. b ≡ 9 → ⊥) f → (upTo (f ++ 9 ∷ r) ≡ f) × (past (f ++ 9 ∷ r) ≡ r)
+unfolding upTo past
+up-joined [] r each-nil = (refl, refl)
+up-joined (x ∷ f) r (each-cons h t) = let k = up-joined f r t in rw (ne-eqb x 9 h) (ap (λ (m : List ℕ). x ∷ m) (k .0), k .1)
+
+-- a line has one field more than tabs, and none past them
+pub rest-none : (n : ℕ) → restAt [] n ≡ []
+unfolding restAt past
+rest-none zero = refl
+rest-none (suc n) = rest-none n
+
+pub rest-beyond : (l : List ℕ) (n : ℕ) → tabs l < n → restAt l n ≡ []
+unfolding restAt
+rest-beyond l zero h = absurd (omega arith)
+rest-beyond l (suc n) h = ⊎-elim (λ w. rw (w .1) (rest-none n)) (λ w. rest-beyond (past l) n (omega arith)) (line-parts l)
+
+pub field-beyond : (l : List ℕ) (n : ℕ) → tabs l < n → fieldAt l n ≡ []
+unfolding fieldAt upTo
+field-beyond l n h = rw (rest-beyond l n h)
+
+pub field-none : (n : ℕ) → fieldAt [] n ≡ []
+unfolding fieldAt upTo
+field-none n = rw (rest-none n)
+
+-- the first field, and the n-th past the first
+pub field-first : (l : List ℕ) → fieldAt l 0 ≡ upTo l
+unfolding fieldAt restAt
+field-first l = refl
+
+pub field-next : (l : List ℕ) (n : ℕ) → fieldAt l (n + 1) ≡ fieldAt (past l) n
+unfolding fieldAt restAt
+field-next l n = rw (add-one n)
+
+-- a walk: the n-th field, k fields having been passed
+pub field-on : (l : List ℕ) (n k : ℕ) → k < n → fieldAt l (n - k) ≡ fieldAt (past l) (n - (k + 1))
+field-on l n k h = let e : n - k ≡ n - (k + 1) + 1 = omega arith in rw e (field-next l (n - (k + 1)))
+
+pub field-out : (l : List ℕ) (n k : ℕ) → k < n → length l ≤ tabAt l → fieldAt l (n - k) ≡ []
+field-out l n k h s = field-on l n k h ∙ rw (past-none l s) (field-none (n - (k + 1)))
+
+pub field-end : (l : List ℕ) (n k : ℕ) → n ≤ k → fieldAt l (n - k) ≡ upTo l
+field-end l n k h = let e : n - k ≡ 0 = omega arith in rw e (field-first l)
+
+-- a field reads as a text where it is that text
+pub of-reads : (f t : List ℕ) → T (reads f t) ↔ (f ≡ t)
+unfolding reads
+of-reads [] [] = (λ _. refl, λ _. tt)
+of-reads [] (y ∷ t) = (λ h. absurd h, λ e. let z : _≡_ {A = ℕ} 0 1 = cc in absurd (omega arith))
+of-reads (x ∷ f) [] = (λ h. absurd h, λ e. let z : _≡_ {A = ℕ} 0 1 = cc in absurd (omega arith))
+of-reads (x ∷ f) (y ∷ t) = both (of-and (eqb x y) (reads f t) (of-eq x y) (of-reads f t))
+  where
+    both : T (eqb x y && reads f t) ↔ ((x ≡ y) × (f ≡ t)) → T (eqb x y && reads f t) ↔ (_≡_ {A = List ℕ} (x ∷ f) (y ∷ t))
+    both r = (λ h. let p : x ≡ y = r .0 h .0 in let q : f ≡ t = r .0 h .1 in cc, λ e. let p : x ≡ y = cc in let q : f ≡ t = cc in r .1 (p, q))
+
+-- an answer that is true just where two texts are the same
+pub reads-same : (r : Bool) (f t : List ℕ) → (r ≡ true → f ≡ t) → (f ≡ t → r ≡ true) → r ≡ reads f t
+reads-same r f t to fro = same r (reads f t) (λ h. of-reads f t .1 (to (is-true r h))) (λ h. rw (fro (of-reads f t .0 h)) tt)
+
+-- ---- numbers in words
+pub of-digit : (b : ℕ) → T (isDigit b) ↔ ((48 ≤ b) × (b ≤ 57))
+unfolding isDigit
+of-digit b = of-and (leb 48 b) (leb b 57) (of-le 48 b) (of-le b 57)
+
+-- one digit or more, and one alone or no zero in front
+pub of-number : (f : List ℕ) → T (isNumber f) ↔ ((length f ≡ 0 → ⊥) × (Each (λ b. (48 ≤ b) × (b ≤ 57)) f × ((length f ≡ 1) ⊎ (getD f 0 0 ≡ 48 → ⊥))))
+unfolding isNumber
+of-number f =
+    let some = not (eqb (length f) 0) in
+    let alone = eqb (length f) 1 in
+    let front = eqb (getD f 0 0) 48 in
+    of-and some (all isDigit f && (alone || not front))
+    (of-not (eqb (length f) 0) (of-eq (length f) 0))
+    (of-and (all isDigit f) (alone || not front) (of-all isDigit of-digit f) (of-or alone (not front) (of-eq (length f) 1) (of-not front (of-eq (getD f 0 0) 48))))
+
+pub of-dash : (f : List ℕ) → T (isDash f) ↔ (f ≡ 45 ∷ [])
+unfolding isDash
+of-dash [] = (λ h. absurd h, λ e. let z : _≡_ {A = ℕ} 0 1 = cc in absurd (omega arith))
+of-dash (x ∷ []) = (λ h. ap (λ (y : ℕ). y ∷ []) (eqb→eq x 45 h), λ e. let p : x ≡ 45 = cc in rw p tt)
+of-dash (x ∷ y ∷ f) = (λ h. let n = suc (suc (length f)) in absurd (omega (arith, of-and (eqb n 1) (eqb x 45) (of-eq n 1) (of-eq x 45) .0 h .0)), λ e. let z : _≡_ {A = ℕ} 0 1 = cc in absurd (omega arith))
+
+-- a digit more is ten times the number and the digit
+value-from-snoc : (v : ℕ) (f : List ℕ) (d : ℕ) → valueFrom v (f ++ (d ∷ [])) ≡ valueFrom v f * 10 + (d - 48)
+unfolding valueFrom
+value-from-snoc v [] d = refl
+value-from-snoc v (b ∷ f) d = value-from-snoc (v * 10 + (b - 48)) f d
+
+pub value-snoc : (f : List ℕ) (d : ℕ) → valueOf (f ++ (d ∷ [])) ≡ valueOf f * 10 + (d - 48)
+unfolding valueOf
+value-snoc f d = value-from-snoc 0 f d

@@ -1,0 +1,98 @@
+// The fields of a line are parts of the line itself: what is handed out are the caller's own bytes.
+//
+// A caller reads all the fields of a line in one pass by carrying what is left of it:
+//     let e = tab(t);
+//     let f = &t[..e];
+//     let k = past(t.len(), e);
+//     t = &t[k..];
+ghost use mathlib.Core.Path.{_≡_};
+ghost use Prim.Native.Nat.{_+_, min};
+ghost use lib.ListN.{drop};
+ghost use Rattle.text.specs.Fields.{upTo, tabAt, tabs, fieldAt, reads, edition};
+
+const TAB: u8 = 9;
+
+// How many bytes stand before the first tab: all where there is no tab.
+pub fn tab(s: &[u8]) -> usize
+    ensures { λ r. ⌜ r ≡ tabAt (now (s .entry)) ⌝ }
+{
+    let mut e = 0;
+    while e < s.len() {
+        if s[e] == TAB {
+            return e;
+        }
+        e += 1;
+    }
+    e
+}
+
+// The first field.
+pub fn field(s: &[u8]) -> &[u8]
+    ensures { λ r. ⌜ now r ≡ upTo (now (s .entry)) ⌝ }
+{
+    let e = tab(s);
+    &s[..e]
+}
+
+// The place past e bytes and the tab after them, in a line of len bytes: its end where that is sooner.
+pub fn past(len: usize, e: usize) -> usize
+    ensures { λ r. ⌜ r ≡ min (e + 1) len ⌝ }
+{
+    if e < len { e + 1 } else { len }
+}
+
+// What is left of a line past e bytes and the tab after them.
+pub fn after(s: &[u8], e: usize) -> &[u8]
+    ensures { λ r. ⌜ now r ≡ drop (e + 1) (now (s .entry)) ⌝ }
+{
+    let k = past(s.len(), e);
+    &s[k..]
+}
+
+// How many tabs.
+pub fn tab_count(s: &[u8]) -> usize
+    ensures { λ r. ⌜ r ≡ tabs (now (s .entry)) ⌝ }
+{
+    let mut n = 0;
+    let mut i = 0;
+    while i < s.len() {
+        if s[i] == TAB {
+            n += 1;
+        }
+        i += 1;
+    }
+    n
+}
+
+// The n-th field, from 0: none where the line has fewer. One pass, up to that field's end.
+pub fn nth_field(s: &[u8], n: usize) -> &[u8]
+    ensures { λ r. ⌜ now r ≡ fieldAt (now (s .entry)) n ⌝ }
+{
+    let mut t = s;
+    let mut k = 0;
+    while k < n {
+        let e = tab(t);
+        if t.len() <= e {
+            return &t[..0];
+        }
+        let a = past(t.len(), e);
+        t = &t[a..];
+        k += 1;
+    }
+    let e = tab(t);
+    &t[..e]
+}
+
+// Whether a field is a text, byte for byte.
+pub fn reads(f: &[u8], text: &[u8]) -> bool
+    ensures { λ r. ⌜ r ≡ reads (now (f .entry)) (now (text .entry)) ⌝ }
+{
+    check::same(f, text)
+}
+
+// Whether a field is the text of the edition.
+pub fn is_edition(f: &[u8]) -> bool
+    ensures { λ r. ⌜ r ≡ reads (now (f .entry)) edition ⌝ }
+{
+    reads(f, b"CF_96E/11")
+}
