@@ -1,2 +1,6 @@
 pub mod Laws
 pub mod Reflect
+pub mod Snoc
+pub mod Sums
+pub mod Tables
+pub mod Walks

@@ -1,3 +1,6 @@
 pub mod Passed
 pub mod Accepted
 pub mod Held
+pub mod Bound
+pub mod Demand1
+pub mod Demand2

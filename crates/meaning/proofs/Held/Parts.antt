@@ -1,14 +1,18 @@
 -- What it is for a record, and for record and blocks, to hold a file's lines.
 use mathlib.Core.Path.{_≡_}
-use mathlib.Core.List.{List}
-use Prim.Native.Nat.{ℕ}
-use lib.Dec.{T}
+use mathlib.Core.List.{List, []}
+use Prim.Native.Nat.{ℕ, _≤_}
+use lib.Dec.{T, leb}
 use lib.ListN.{length}
-use Rattle.meaning.specs.Line.{Line}
-use Rattle.meaning.specs.File.{siteIn, beforeIn, filingIn}
-use Rattle.meaning.specs.Blocks.{World, sizesFit}
-use Rattle.meaning.specs.Record.{Rec, Tallies, recFits, contentsFit, beforeOf, filingOf}
+use Rattle.lists.specs.Lists.{Each}
+use Rattle.calendar.specs.declared.Years.{Years}
+use Rattle.calendar.specs.Dates.{isDay, isWinter}
+use Rattle.meaning.specs.Line.{Line, X, is, tagOf, yearOn, monthOn, dayOn, hasDateOn, isWinterTag}
+use Rattle.meaning.specs.File.{siteIn, axisIn, beforeIn, filingIn}
+use Rattle.meaning.specs.Blocks.{World, sizesFit, freshWorld}
+use Rattle.meaning.specs.Record.{Rec, Tallies, freshRec, historyOfRec, axisOfRec, eachYear, recFits, contentsFit, beforeOf, filingOf}
 use Rattle.meaning.specs.Sheet.{noCurve}
+use Rattle.meaning.proofs.Held.Counts.{datesBy, winterDatesBy, linesBy}
 
 -- the tallies have a number for each year that a file can have
 pub record Shaped (k : Tallies) : Type 0 where
@@ -24,6 +28,17 @@ pub record HeldRec (ls : List Line) (s : Rec) : Type 0 where
   pub before : beforeOf s ≡ beforeIn ls
   pub shaped : Shaped (s .tallies)
   pub fits : T (recFits s)
+  -- a year has no more P dates, and no more D dates, than come at or before the last one
+  pub profiled : T (eachYear (historyOfRec s) (λ y n. leb n (winterDatesBy y (s .lasts .p))) (s .tallies .profileDates))
+  pub summed : T (eachYear (axisOfRec s) (λ y n. leb n (datesBy y (s .lasts .d))) (s .tallies .dailyDates))
+  -- nor are there more lines than the tags' last ones leave room for
+  pub few : s .count ≤ linesBy s
+
+-- a line's date: a day, a winter day on C and P, and on X of no year before the axis, so that no other date has its place or position
+pub record Dated (axis : Years) (l : Line) : Type 0 where
+  pub day : T (hasDateOn (tagOf l)) → T (isDay (monthOn l) (dayOn l))
+  pub winter : T (isWinterTag (tagOf l)) → T (isWinter (monthOn l))
+  pub year : T (is X (tagOf l)) → axis .first ≤ yearOn l
 
 -- record and blocks say what the lines say
 pub record HeldWorld (ls : List Line) (s : Rec) (w : World) : Type 0 where
@@ -31,3 +46,6 @@ pub record HeldWorld (ls : List Line) (s : Rec) (w : World) : Type 0 where
   pub filing : filingOf s w ≡ filingIn ls
   pub contents : T (contentsFit s w)
   pub curve : w .curve ≡ noCurve
+  -- until a line is taken both are fresh
+  pub unread : ls ≡ [] → (s ≡ freshRec) × (w ≡ freshWorld)
+  pub dated : Each (Dated (axisIn ls)) ls
