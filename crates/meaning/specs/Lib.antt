@@ -13,5 +13,6 @@ pub mod Record
 pub mod Calls
 pub mod Sheet
 pub mod Input
+pub mod Text
 pub mod CallLists
 pub mod Demands
