@@ -29,16 +29,22 @@ unfoldable pub tabbed : ℕ → List ℕ
 tabbed n = tabByte ∷ digitsOf n
 
 -- N, AL, filière, NCC in W, points counted
+unfoldable pub levelText : ℕ → ℕ → ℕ → ℕ → List ℕ
+levelText al f n k = (78 ∷ []) ++ (tabbed al ++ (tabbed f ++ (tabbed n ++ (tabbed k ++ (endByte ∷ [])))))
+
 unfoldable pub levelLine : Report → List ℕ
-levelLine r = (78 ∷ tabbed (r .al)) ++ (tabbed (r .filiere) ++ (tabbed (r .level) ++ (tabbed (r .points) ++ (endByte ∷ []))))
+levelLine r = levelText (r .al) (r .filiere) (r .level) (r .points)
 
 -- Y, year, case, points present
+unfoldable pub yearText : ℕ → ℕ → ℕ → List ℕ
+yearText y c k = (89 ∷ []) ++ (tabbed y ++ ((tabByte ∷ []) ++ ((c ∷ []) ++ (tabbed k ++ (endByte ∷ [])))))
+
 unfoldable pub yearLine : YearReport → List ℕ
-yearLine y = (89 ∷ tabbed (y .year)) ++ ((tabByte ∷ letterOfCase (y .case) ∷ []) ++ (tabbed (y .present) ++ (endByte ∷ [])))
+yearLine y = yearText (y .year) (letterOfCase (y .case)) (y .present)
 
 -- Z, number, count
 unfoldable pub refusalLine : ℕ → ℕ → List ℕ
-refusalLine n c = (90 ∷ tabbed n) ++ (tabbed c ++ (endByte ∷ []))
+refusalLine n c = (90 ∷ []) ++ (tabbed n ++ (tabbed c ++ (endByte ∷ [])))
 
 unfoldable pub textOf : Sheet → List ℕ
 textOf (stopped n c) = refusalLine n c
