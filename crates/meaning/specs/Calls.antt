@@ -88,13 +88,13 @@ positionOn axis l = positionOf axis (yearOn l) (monthOn l) (dayOn l)
 unfoldable pub worldAfter : Tag → Line → Rec → World → World
 worldAfter t l s w = record {
   near =
-    cond (is C t && isNear (s .site .al) (yearOn l))
-    (sets (w .near) (nearStart (s .site .al) (yearOn l) + slotAt (winterOn l) 0) (pointCodes l))
-    (w .near);
+      cond (is C t && isNear (s .site .al) (yearOn l))
+      (sets (w .near) (nearStart (s .site .al) (yearOn l) + slotAt (winterOn l) 0) (pointCodes l))
+      (w .near);
   far =
-    cond (is C t && not (isNear (s .site .al) (yearOn l)))
-    (sets (w .far) (farStart (s .site .al) (yearOn l) + slotAt (winterOn l) 0) (pointCodes l))
-    (w .far);
+      cond (is C t && not (isNear (s .site .al) (yearOn l)))
+      (sets (w .far) (farStart (s .site .al) (yearOn l) + slotAt (winterOn l) 0) (pointCodes l))
+      (w .far);
   slots = cond (is P t) (sets (w .slots) (slotsStart (historyOfRec s .first) (yearOn l) + slotAt (winterOn l) 0) (profileValues l)) (w .slots);
   daily = cond (is D t) (set (w .daily) (positionOn (axisOfRec s) l) (numberAt l 4)) (w .daily);
   positions = cond (is X t) (set (w .positions) (s .readings) (positionOn (axisOfRec s) l)) (w .positions);

@@ -16,3 +16,4 @@ pub mod Input
 pub mod Text
 pub mod CallLists
 pub mod Demands
+pub mod Words
