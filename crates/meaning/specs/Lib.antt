@@ -16,4 +16,5 @@ pub mod Input
 pub mod Text
 pub mod CallLists
 pub mod Demands
+pub mod Witness
 pub mod Words

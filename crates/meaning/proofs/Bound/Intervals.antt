@@ -112,7 +112,7 @@ module _ (F : Filing) (known : T (isKnown (F .site .al) (F .site .filiere))) (y 
       (some-in (in-kept (λ q. hasDate (yearOf F q) (placeAt q)) (in-range a (b - a) p (s .0) (omega arith)) date-there) winter-there)
 
   -- a valid index year has an interval there
-  around : T (indexValid F y) → (v : Interval) × (intervalAt F y w ≡ some v) × T (hasDay v (positionAt F y w)) × In v (intervals F)
+  pub around : T (indexValid F y) → (v : Interval) × (intervalAt F y w ≡ some v) × T (hasDay v (positionAt F y w)) × In v (intervals F)
   unfolding isCovered intervalAt
   around h =
       let p = positionAt F y w in
