@@ -6,3 +6,4 @@ pub mod Snoc
 pub mod Sums
 pub mod Tables
 pub mod Walks
+pub mod Tabs

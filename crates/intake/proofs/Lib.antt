@@ -1,0 +1,6 @@
+pub mod Fields
+pub mod Forms
+pub mod Tags
+pub mod Readers
+pub mod Capped
+pub mod Checks

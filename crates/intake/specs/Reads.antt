@@ -1,0 +1,65 @@
+-- What is read off a line, whatever bytes it has: its tag, whether its fields are in their forms, and its numbers up to the most.
+use mathlib.Core.Bool.{Bool, not, cond}
+use mathlib.Core.List.{List, [], _∷_, map}
+use Prim.Native.Nat.{ℕ, min}
+use Rattle.text.specs.Fields.{past, fieldAt}
+use Rattle.text.specs.Numbers.{most}
+use Rattle.meaning.specs.Line.{Line, Tag, S, C, X, D, P, B, R, E, other, rank, size, tagOf, Form, formsOf, inForm, someField, numberAt, meterOf, kindOf}
+use Rattle.meaning.specs.Refusals.{isUnknown}
+use Rattle.meaning.specs.Blocks.{letterOfKind}
+use Rattle.intake.specs.Views.{meterShown}
+use Rattle.intake.specs.declared.SiteRead.{SiteRead}
+use Rattle.intake.specs.declared.ReadingRead.{ReadingRead}
+use Rattle.intake.specs.declared.DailyRead.{DailyRead}
+use Rattle.intake.specs.declared.YearRead.{YearRead}
+use Rattle.intake.specs.declared.RateRead.{RateRead}
+use Rattle.intake.specs.declared.CountRead.{CountRead}
+
+-- 3: the rank of the line's tag, 0 where the tag is unknown or the number of fields wrong
+unfoldable pub knownTag : Line → ℕ
+knownTag l = cond (isUnknown l) 0 (rank (tagOf l))
+
+-- the number of fields by rank, the tag included
+abbrev pub sizes : List ℕ
+sizes = map size (other ∷ S ∷ C ∷ X ∷ D ∷ P ∷ B ∷ R ∷ E ∷ [])
+
+-- 5: whether the first fields of what is left of a line are in their forms
+unfoldable pub inForms : List Form → List ℕ → Bool
+inForms ms t = not (someField (λ m f. not (inForm m f)) ms t)
+
+-- whether every field after the tag is in the form that a line of this tag gives it
+unfoldable pub isFormed : Tag → Line → Bool
+isFormed t l = inForms (formsOf t) (past l)
+
+-- a field's number, up to the most
+unfoldable pub cappedAt : Line → ℕ → ℕ
+cappedAt l n = min (numberAt l n) most
+
+-- ---- by tag
+unfoldable pub siteReadOf : Line → SiteRead
+siteReadOf l = record {
+  formed = isFormed S l;
+  site = record { al = cappedAt l 2; filiere = cappedAt l 3; meter = meterShown (meterOf (fieldAt l 4)); ps = cappedAt l 5 };
+}
+
+unfoldable pub readingReadOf : Line → ReadingRead
+readingReadOf l = record {
+  formed = isFormed X l;
+  year = cappedAt l 1;
+  month = cappedAt l 2;
+  day = cappedAt l 3;
+  index = cappedAt l 4;
+  kind = letterOfKind (kindOf (fieldAt l 5));
+}
+
+unfoldable pub dailyReadOf : Line → DailyRead
+dailyReadOf l = record { formed = isFormed D l; year = cappedAt l 1; month = cappedAt l 2; day = cappedAt l 3; sum = cappedAt l 4 }
+
+unfoldable pub yearReadOf : Line → YearRead
+yearReadOf l = record { formed = isFormed B l; year = cappedAt l 1 }
+
+unfoldable pub rateReadOf : Line → RateRead
+rateReadOf l = record { formed = isFormed R l; year = cappedAt l 1; rate = cappedAt l 2 }
+
+unfoldable pub countReadOf : Line → CountRead
+countReadOf l = record { formed = isFormed E l; count = cappedAt l 1 }

@@ -1,0 +1,89 @@
+// One line's form: from its bytes to its tag and its numbers.
+//
+// Each reader takes any bytes. It says whether every field after the tag is in its form (5), and hands out each number up to 10^18, which is above
+// every range that a field has, so that 6 and 7 can be judged on the numbers alone.
+mod dated; // X and D
+mod form; // a line's bytes and its tag
+mod parts; // the tag passed, and the date past it
+mod site_line; // S
+mod years; // B, R and E
+
+pub use dated::read_daily;
+pub use dated::read_reading;
+pub use form::is_illegible;
+pub use form::known_tag;
+pub use parts::after_tag;
+pub use parts::both;
+pub use parts::date_fields;
+pub use site_line::read_site;
+pub use years::read_count;
+pub use years::read_rate;
+pub use years::read_year;
+
+// T is a curve meter, I an index meter.
+pub enum Meter {
+    NoMeter,
+    Curve,
+    Index,
+}
+
+// What S says: AL, filière, meter, and the retained power PS in W.
+pub struct Site {
+    pub al: u64,
+    pub filiere: u64,
+    pub meter: Meter,
+    pub ps: u64,
+}
+
+// An S line.
+pub struct SiteRead {
+    pub formed: bool,
+    pub site: Site,
+}
+
+// An X line: the kind is its letter, 0 where it is none of the three.
+pub struct ReadingRead {
+    pub formed: bool,
+    pub year: u64,
+    pub month: u64,
+    pub day: u64,
+    pub index: u64,
+    pub kind: u8,
+}
+
+// A D line.
+pub struct DailyRead {
+    pub formed: bool,
+    pub year: u64,
+    pub month: u64,
+    pub day: u64,
+    pub sum: u64,
+}
+
+// A B line.
+pub struct YearRead {
+    pub formed: bool,
+    pub year: u64,
+}
+
+// An R line.
+pub struct RateRead {
+    pub formed: bool,
+    pub year: u64,
+    pub rate: u64,
+}
+
+// An E line.
+pub struct CountRead {
+    pub formed: bool,
+    pub count: u64,
+}
+
+// The date in the first three fields of what is left of a line, and how many bytes they take with their tabs.
+pub struct DateFields {
+    pub formed: bool,
+    pub year: u64,
+    pub month: u64,
+    pub day: u64,
+    pub used: usize,
+}

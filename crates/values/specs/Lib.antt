@@ -1,0 +1,4 @@
+pub mod Codes
+pub mod Reads
+pub mod Ranges
+pub mod Rows
