@@ -7,3 +7,4 @@ pub mod Sums
 pub mod Tables
 pub mod Walks
 pub mod Tabs
+pub mod AllAt

@@ -1,0 +1,3 @@
+pub mod Days
+pub mod Columns
+pub mod Laws

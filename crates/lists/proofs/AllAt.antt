@@ -1,0 +1,137 @@
+-- Tests of every element and its place, part by part and one by one; tests of each two neighbours.
+use mathlib.Core.Path.{_≡_, refl, ap, sym, _∙_, subst}
+use mathlib.Core.Bool.{Bool, true, false, _&&_}
+use mathlib.Core.Logic.{_⊎_, inl, inr}
+use mathlib.Core.List.{List, [], _∷_}
+use Prim.Native.Nat.{ℕ, zero, suc, _+_, _-_, _≤_, _<_}
+use native.Mathlib.Nat.{zero-add, add-zero, add-suc, suc-add, le-of-suc-le-suc, not-suc-le-zero}
+use native.Mathlib.Numerals.{add-one}
+use native.Mathlib.Omega.{arith}
+use lib.Dec.{T, leb}
+use lib.ListN.{length, getD, take, drop, drop-of-length-le, List·getD-eq-default}
+use lib.Seq.{drop-cons, drop-drop, getD-drop}
+use borrow.Author.Tests.{leb-true, leb-false}
+use Rattle.lists.specs.Lists.{all, allAt, tab, neighbours}
+use Rattle.lists.proofs.Laws.{is-true}
+use Rattle.lists.proofs.Snoc.{allAt-at}
+use Rattle.lists.proofs.Tables.{and-parts}
+
+and-assoc : (a b c : Bool) → (a && (b && c)) ≡ ((a && b) && c)
+and-assoc true b c = refl
+and-assoc false b c = refl
+
+-- ---- the elements that are left of a list, one less with each turn
+pub allAt-on : {A : Type 0} (p : ℕ → A → Bool) (xs : List A) (i : ℕ) (d : A) → i < length xs → allAt p i (drop i xs) ≡ (p i (getD xs i d) && allAt p (i + 1) (drop (i + 1) xs))
+unfolding allAt
+allAt-on p xs i d h = rw (add-one i, drop-cons xs i d h)
+
+pub allAt-end : {A : Type 0} (p : ℕ → A → Bool) (xs : List A) (i : ℕ) → length xs ≤ i → allAt p i (drop i xs) ≡ true
+unfolding allAt
+allAt-end p xs i h = rw (drop-of-length-le xs h)
+
+pub all-on : {A : Type 0} (p : A → Bool) (xs : List A) (i : ℕ) (d : A) → i < length xs → all p (drop i xs) ≡ (p (getD xs i d) && all p (drop (i + 1) xs))
+unfolding all
+all-on p xs i d h = rw (add-one i, drop-cons xs i d h)
+
+pub all-end : {A : Type 0} (p : A → Bool) (xs : List A) (i : ℕ) → length xs ≤ i → all p (drop i xs) ≡ true
+unfolding all
+all-end p xs i h = rw (drop-of-length-le xs h)
+
+-- ---- a list in two parts
+pub allAt-parts : {A : Type 0} (p : ℕ → A → Bool) (k i : ℕ) (xs : List A) → allAt p i xs ≡ (allAt p i (take k xs) && allAt p (i + k) (drop k xs))
+unfolding allAt
+allAt-parts p zero i xs = rw (add-zero i)
+allAt-parts p (suc k) i [] = refl
+allAt-parts p (suc k) i (x ∷ xs) =
+    rw (allAt-parts p k (suc i) xs, suc-add i k, add-suc i k) (and-assoc (p i x) (allAt p (suc i) (take k xs)) (allAt p (suc (i + k)) (drop k xs)))
+
+-- the places from i to the one before i + k, and those after them, of a list that may be shorter
+pub allAt-run : {A : Type 0} (p : ℕ → A → Bool) (xs : List A) (i k e : ℕ) → i ≤ e → (e ≡ i + k) ⊎ ((e ≡ length xs) × (length xs ≤ i + k))
+    → allAt p i (drop i xs) ≡ (allAt p i (take (e - i) (drop i xs)) && allAt p (i + k) (drop (i + k) xs))
+allAt-run {A} p xs i k e h w = allAt-parts p (e - i) i (drop i xs) ∙ ap (λ (b : Bool). allAt p i (take (e - i) (drop i xs)) && b) (go w)
+  where
+    go : (e ≡ i + k) ⊎ ((e ≡ length xs) × (length xs ≤ i + k)) → allAt p (i + (e - i)) (drop (e - i) (drop i xs)) ≡ allAt p (i + k) (drop (i + k) xs)
+    go (inl f) = rw (drop-drop (e - i) i xs) (ap (λ (n : ℕ). allAt p n (drop n xs)) (omega arith))
+    go (inr f) =
+        rw (drop-drop (e - i) i xs)
+        (allAt-end p xs (i + (e - i)) (omega arith) ∙ sym (allAt-end p xs (i + k) (f .1)))
+
+-- where a test does not look at the place
+pub allAt-all : {A : Type 0} (p : ℕ → A → Bool) (q : A → Bool) (i : ℕ) (xs : List A) → ((k : ℕ) → k < length xs → (x : A) → p (i + k) x ≡ q x) → allAt p i xs ≡ all q xs
+unfolding allAt all
+allAt-all p q i [] h = refl
+allAt-all p q i (x ∷ xs) h =
+    rw (← add-zero i) (rw (h 0 (omega arith) x, add-zero i, allAt-all p q (suc i) xs (λ k l y. rw (suc-add i k, ← add-suc i k) (h (suc k) (omega arith) y))))
+
+-- ---- what stands in a list
+pub getD-within : {A : Type 0} (xs : List A) (k : ℕ) (d e : A) → k < length xs → getD xs k d ≡ getD xs k e
+getD-within [] k d e h = absurd (not-suc-le-zero h)
+getD-within (x ∷ xs) zero d e h = refl
+getD-within (x ∷ xs) (suc k) d e h = getD-within xs k d e (le-of-suc-le-suc h)
+
+-- a part of a list has no more at a place than the list has further on
+pub getD-part : (n i k : ℕ) (xs : List ℕ) → getD (take n (drop i xs)) k 0 ≤ getD xs (i + k) 0
+getD-part n i k xs = rw (← getD-drop i xs k 0) (go n k (drop i xs))
+  where
+    go : (n k : ℕ) (ys : List ℕ) → getD (take n ys) k 0 ≤ getD ys k 0
+    go zero k ys = omega arith
+    go (suc n) k [] = omega arith
+    go (suc n) zero (y ∷ ys) = omega arith
+    go (suc n) (suc k) (y ∷ ys) = go n k ys
+
+pub all-made : (p : ℕ → Bool) (xs : List ℕ) → ((k : ℕ) → T (p (getD xs k 0))) → all p xs ≡ true
+unfolding all
+all-made p [] h = refl
+all-made p (x ∷ xs) h = rw (is-true (p x) (h 0)) (all-made p xs (λ k. h (suc k)))
+
+-- a test of every element, at any place of it
+pub all-at : {A : Type 0} (p : A → Bool) (xs : List A) → T (all p xs) → (k : ℕ) (d : A) → k < length xs → T (p (getD xs k d))
+unfolding all
+all-at p [] t k d h = absurd (not-suc-le-zero h)
+all-at p (x ∷ xs) t zero d h = and-parts (p x) (all p xs) t .0
+all-at p (x ∷ xs) t (suc k) d h = all-at p xs (and-parts (p x) (all p xs) t .1) k d (le-of-suc-le-suc h)
+
+-- where the default passes at every place, so does what is read past the end
+pub allAt-read : {A : Type 0} (p : ℕ → A → Bool) (xs : List A) (d : A) → T (allAt p 0 xs) → ((k : ℕ) → T (p k d)) → (k : ℕ) → T (p k (getD xs k d))
+allAt-read p xs d t u k = go (leb (length xs) k) refl
+  where
+    go : (b : Bool) → leb (length xs) k ≡ b → T (p k (getD xs k d))
+    go true e = rw (List·getD-eq-default xs d (leb-true (length xs) k e)) (u k)
+    go false e = subst (λ (n : ℕ). T (p n (getD xs k d))) (zero-add k) (allAt-at p 0 xs t k d (leb-false (length xs) k e))
+
+-- ---- a table of places, one less with each turn
+pub tab-on : {A : Type 0} (n k : ℕ) (f : ℕ → A) → k < n → tab (n - k) k f ≡ f k ∷ tab (n - (k + 1)) (k + 1) f
+unfolding tab
+tab-on {A} n k f h = go (n - (k + 1)) (omega arith)
+  where
+    go : (m : ℕ) → n - k ≡ suc m → tab (n - k) k f ≡ f k ∷ tab (n - (k + 1)) (k + 1) f
+    go m e = let g : n - (k + 1) ≡ m = omega arith in rw (e, g, add-one k)
+
+pub tab-end : {A : Type 0} (n k : ℕ) (f : ℕ → A) → n ≤ k → tab (n - k) k f ≡ []
+unfolding tab
+tab-end n k f h = let e : n - k ≡ 0 = omega arith in rw e
+
+-- ---- each two neighbours pass
+pub neighbours-at : {A : Type 0} (q : A × A → Bool) (xs : List A) → T (all q (neighbours xs)) → (k : ℕ) (d : A) → k + 1 < length xs → T (q (getD xs k d, getD xs (k + 1) d))
+unfolding neighbours all
+neighbours-at q [] t k d h = absurd (omega arith)
+neighbours-at q (x ∷ []) t k d h = absurd (omega arith)
+neighbours-at q (x ∷ y ∷ xs) t zero d h = and-parts (q (x, y)) (all q (neighbours (y ∷ xs))) t .0
+neighbours-at q (x ∷ y ∷ xs) t (suc k) d h =
+    rw (suc-add k 1) (neighbours-at q (y ∷ xs) (and-parts (q (x, y)) (all q (neighbours (y ∷ xs))) t .1) k d (omega arith))
+
+-- ---- a walk that stops at the first that does not pass
+pub and-false : (a : Bool) → (a && false) ≡ false
+and-false true = refl
+and-false false = refl
+
+pub and-true : (a : Bool) → (a && true) ≡ a
+and-true true = refl
+and-true false = refl
+
+-- what is to be told is that this one passes, and what is left
+pub stops : {x a : Bool} (b : Bool) → x ≡ (a && b) → a ≡ false → false ≡ x
+stops b e f = sym (e ∙ ap (λ (a : Bool). a && b) f)
+
+pub goes : {x a : Bool} (b : Bool) → x ≡ (a && b) → a ≡ true → x ≡ b
+goes b e f = e ∙ ap (λ (a : Bool). a && b) f
