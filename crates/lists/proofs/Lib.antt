@@ -8,3 +8,4 @@ pub mod Tables
 pub mod Walks
 pub mod Tabs
 pub mod AllAt
+pub mod Ranges

@@ -1,0 +1,7 @@
+pub mod Fills
+pub mod Trust
+pub mod Winter
+pub mod Filed
+pub mod Valid
+pub mod Totals
+pub mod Bounds
