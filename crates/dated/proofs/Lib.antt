@@ -1,0 +1,5 @@
+pub mod Dates
+pub mod Judged
+pub mod OnAxis
+pub mod InWinter
+pub mod Told

@@ -1,0 +1,5 @@
+pub mod Chain
+pub mod Judged
+pub mod ByTag
+pub mod Records
+pub mod Told

@@ -1,0 +1,29 @@
+use borrow.Author.Needs.{needs}
+use Rattle.judge.specs.Answers.{endJudged}
+use Rattle.judge.proofs.ByTag.{end-number}
+use Rattle.judge.proofs.ends.judge_end.Statement.{statement}
+use Rattle.judge.proofs.ends.judge_end.Tie as tie
+
+read-count-requires : tie.Need-read-count-requires
+read-count-requires c κs = search needs
+
+is-late-requires : tie.Need-is-late-requires
+is-late-requires c κs = search needs
+
+first-requires : tie.Need-first-requires
+first-requires c κs = search needs
+
+returns : tie.Need-returns
+unfolding endJudged
+returns c =
+    let b1 = c .before in
+    let b2 = b1 .before in
+    let b3 = b2 .before in
+    let b4 = b3 .before in
+    let b5 = b4 .before in
+    let b6 = b5 .before in
+    let b7 = b6 .before in
+    rw (end-number _ _ _ (b7 .pre) (b5 .read-count .result) _ _ (b5 .read-count .ensures) (b4 .is-late .ensures) (c .first .ensures))
+
+pub judge-end-spec : {M : Type 1} → statement M
+judge-end-spec = tie.close (tie.spec read-count-requires is-late-requires first-requires returns)

@@ -1,0 +1,3 @@
+pub mod Before
+pub mod Order
+pub mod Answers

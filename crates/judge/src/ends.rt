@@ -1,0 +1,79 @@
+// S and E: the first line of a file and its last.
+use crate::Checks;
+use crate::EndJudged;
+use crate::SiteJudged;
+use crate::order::first;
+use crate::order::is_late;
+use crate::order::is_within;
+use intake::Meter;
+use intake::Site;
+use intake::both;
+ghost use mathlib.Core.Path.{_≡_};
+ghost use Rattle.meaning.specs.Line.{S, E};
+ghost use Rattle.meaning.specs.Refusals.{isTooSoon, refusal};
+ghost use Rattle.judge.specs.Before.{Known, beforeFirst, beforeEnd};
+ghost use Rattle.judge.specs.Answers.{siteJudged, endJudged};
+
+// 9: filières 6 to 11 are certified from AL 2023 on.
+fn is_too_soon(al: u64, filiere: u64) -> bool
+    ensures { λ r. ⌜ r ≡ isTooSoon al filiere ⌝ }
+{
+    both(6 <= filiere, al < 2023)
+}
+
+pub fn judge_site(line: &[u8], last: u64) -> SiteJudged
+    requires { ⌜ Known S (now line) ⌝ }
+    ensures { λ r. ⌜ r ≡ siteJudged (refusal (beforeFirst last) (now (line .entry))) (now (line .entry)) ⌝ }
+{
+    let r = intake::read_site(line);
+    let site = r.site;
+    let numbers = both(
+        is_within(site.filiere, 1, 11),
+        is_within(site.ps, 1, 100_000_000),
+    );
+    let inside = both(is_within(site.al, 2021, 2026), numbers);
+    let soon = is_too_soon(site.al, site.filiere);
+    let number = first(Checks {
+        misplaced: last != 0,
+        malformed: !r.formed,
+        outside: !inside,
+        dateless: false,
+        reached: false,
+        soon,
+        falling: false,
+        excess: false,
+        miscounted: false,
+    });
+    if number != 0 {
+        return SiteJudged {
+            number,
+            site: Site {
+                al: 0,
+                filiere: 0,
+                meter: Meter::NoMeter,
+                ps: 0,
+            },
+        };
+    }
+    SiteJudged { number, site }
+}
+
+pub fn judge_end(line: &[u8], last: u64, count: u64) -> EndJudged
+    requires { ⌜ Known E (now line) ⌝ }
+    ensures { λ r. ⌜ r ≡ endJudged (refusal (beforeEnd last count) (now (line .entry))) ⌝ }
+{
+    let r = intake::read_count(line);
+    let misplaced = is_late(last, 8);
+    let number = first(Checks {
+        misplaced,
+        malformed: !r.formed,
+        outside: 9999 < r.count,
+        dateless: false,
+        reached: false,
+        soon: false,
+        falling: false,
+        excess: false,
+        miscounted: r.count != count,
+    });
+    EndJudged { number }
+}
