@@ -9,3 +9,4 @@ pub mod Walks
 pub mod Tabs
 pub mod AllAt
 pub mod Ranges
+pub mod Turns

@@ -1,0 +1,55 @@
+use mathlib.Core.Path.{_≡_, refl, sym, ap, subst, _∙_}
+use Prim.Native.Nat.{ℕ}
+use native.Mathlib.Omega.{arith}
+use Rattle.points.specs.declared.Basis.{Basis}
+use Rattle.points.specs.Sources.{casSum, casFrom}
+use Rattle.points.specs.Fits.{BasisFits}
+use Rattle.curve.specs.Places.{basisOf}
+use Rattle.curve.specs.Fits.{BasisIs}
+use Rattle.curve.proofs.Sites.{basis-fits, cas-most}
+use borrow.Author.Needs.{needs}
+use Rattle.curve.proofs.whole.basis_of.Statement.{statement}
+use Rattle.curve.proofs.whole.basis_of.Tie as tie
+use Rattle.curve.proofs.whole.basis_of.Reads as reads
+use Rattle.curve.proofs.whole.basis_of.Lts as lts
+use Rattle.calendar.proofs.spans.history.Reads as history-reads
+use Rattle.note.proofs.coefficients.theta.Reads as theta-reads
+use Rattle.points.proofs.years.cas_from.Reads as cas-from-reads
+use Rattle.points.proofs.years.cas_sum.Reads as cas-sum-reads
+
+history-requires : tie.Need-history-requires
+history-requires c κs = search needs
+
+cas-from-requires : tie.Need-cas-from-requires
+unfolding basisOf
+cas-from-requires c κs =
+    let s = c .before in
+    let a = s .args in
+    rw (c .history .ensures) (basis-fits (a .al) (a .filiere) (a .ps) (s .pre) .first)
+
+theta-requires : tie.Need-theta-requires
+theta-requires c κs = search needs
+
+cas-sum-requires : tie.Need-cas-sum-requires
+unfolding basisOf
+cas-sum-requires c κs =
+    let h = c .before .before .before in
+    let s = h .before in
+    let a = s .args in
+    (rw (h .history .ensures) (basis-fits (a .al) (a .filiere) (a .ps) (s .pre) .count), rw (c .before .before .cas-from .ensures) (cas-most (h .history .result .first) (a .filiere)))
+
+returns : tie.Need-returns
+unfolding basisOf
+returns c =
+    let h = c .before .before .before .before in
+    let s = h .before in
+    let a = s .args in
+    let e = c .cas-sum .ensures .is ∙ ap (casSum (h .history .result .count)) (c .before .before .before .cas-from .ensures) in
+    record {
+      is = rw (e, c .before .before .theta .ensures, h .history .ensures);
+      fits = rw (e, c .before .before .theta .ensures, h .history .ensures) (basis-fits (a .al) (a .filiere) (a .ps) (s .pre));
+    }
+
+pub basis-of-spec : {M : Type 1} → statement M
+basis-of-spec =
+    tie.close (tie.spec history-requires cas-from-requires theta-requires cas-sum-requires returns)

@@ -1,0 +1,127 @@
+// All years of the history: the curve, the points present by year, their sum and count, and whether 18 holds.
+ghost use mathlib.Core.Path.{_≡_};
+ghost use Prim.Native.Nat.{_≤_, _<_};
+ghost use lib.ListN.{replicate};
+ghost use Rattle.meaning.specs.Level.{missingEntry};
+ghost use Rattle.points.specs.Sources.{casFrom};
+ghost use Rattle.points.specs.Fits.{BasisFits, RatesFit};
+ghost use Rattle.curve.specs.Places.{held, basisOf};
+ghost use Rattle.curve.specs.Fits.{HeldFits, SiteFits, ListsFit, BasisIs, Filled};
+use crate::Filling;
+use crate::Tally;
+use crate::tallies;
+use crate::walk;
+use points::Basis;
+use points::cases;
+use points::years;
+
+// Each year in turn, from a curve whose entries are all missing. A year's points do not stop where one is refusal 18: the curve is then not used.
+fn all_years<'a>(
+    b: Basis,
+    near: &'a [u32],
+    far: &'a [u32],
+    slots: &[u16],
+    energies: &[u64; 4392],
+    totals: &[u64; 4392],
+    curves: &[u64; 10],
+    indexes: &[u64; 10],
+    cas: &[u64; 10],
+    codes: &[u64; 10],
+    rates: &[u64; 10],
+    curve: &mut [u64; 4400],
+) -> Filling
+    requires { ⌜ BasisFits b × HeldFits b (held (now near) (now far) (now slots) (now energies) (now totals) (now curves) (now indexes) (now cas)) × RatesFit (now rates) ⌝ }
+    requires { ⌜ now curve ≡ replicate 4400 missingEntry ⌝ }
+    ensures { λ r. ⌜ Filled b (held (now (near .entry)) (now (far .entry)) (now (slots .entry)) (now (energies .entry)) (now (totals .entry)) (now (curves .entry)) (now (indexes .entry)) (now (cas .entry))) (now (codes .entry)) (now (rates .entry)) (now (curve .exit)) r ⌝ }
+{
+    let n = b.count as usize;
+    let mut t = Tally {
+        exceeds: false,
+        sum: 0,
+        counted: 0,
+    };
+    let mut present = [0u64; 10];
+    let mut k = 0;
+    while k < n {
+        let y = walk::year_places(
+            b,
+            cases::case_at(codes[k]),
+            rates[k],
+            k,
+            near,
+            far,
+            slots,
+            energies,
+            totals,
+            curves,
+            indexes,
+            cas,
+            curve,
+        );
+        present[k] = y.counted;
+        t = tallies::plus(t, y);
+        k += 1;
+    }
+    Filling {
+        exceeds: t.exceeds,
+        sum: t.sum,
+        counted: t.counted,
+        present,
+    }
+}
+
+// The history, theta and CA of a site's AL and filière.
+fn basis_of(al: u64, filiere: u64, ps: u64) -> Basis
+    requires { ⌜ SiteFits al filiere ps ⌝ }
+    ensures { λ r. ⌜ BasisIs al filiere ps r ⌝ }
+{
+    let h = calendar::spans::history(al, filiere);
+    let cas = years::cas_from(h.first, filiere);
+    let n = h.count as usize;
+    Basis {
+        al,
+        first: h.first,
+        count: h.count,
+        ps,
+        theta: note::coefficients::theta(filiere),
+        cas: years::cas_sum(&cas, n),
+    }
+}
+
+// The site's own figures, then all years. The curve comes in with every entry missing.
+pub fn fill<'a>(
+    al: u64,
+    filiere: u64,
+    ps: u64,
+    near: &'a [u32],
+    far: &'a [u32],
+    slots: &[u16],
+    energies: &[u64; 4392],
+    totals: &[u64; 4392],
+    curves: &[u64; 10],
+    indexes: &[u64; 10],
+    codes: &[u64; 10],
+    rates: &[u64; 10],
+    curve: &mut [u64; 4400],
+) -> Filling
+    requires { ⌜ SiteFits al filiere ps × ListsFit al (now near) (now far) (now slots) (now energies) (now totals) (now rates) ⌝ }
+    requires { ⌜ now curve ≡ replicate 4400 missingEntry ⌝ }
+    ensures { λ r. ⌜ Filled (basisOf al filiere ps) (held (now (near .entry)) (now (far .entry)) (now (slots .entry)) (now (energies .entry)) (now (totals .entry)) (now (curves .entry)) (now (indexes .entry)) (casFrom (basisOf al filiere ps .first) filiere)) (now (codes .entry)) (now (rates .entry)) (now (curve .exit)) r ⌝ }
+{
+    let b = basis_of(al, filiere, ps);
+    let cas = years::cas_from(b.first, filiere);
+    all_years(
+        b,
+        near,
+        far,
+        slots,
+        energies,
+        totals,
+        curves,
+        indexes,
+        &cas,
+        codes,
+        rates,
+        curve,
+    )
+}

@@ -1,0 +1,3 @@
+pub mod Fillings
+pub mod Gathered
+pub mod Marks

@@ -1,0 +1,24 @@
+use mathlib.Core.Path.{ap, _∙_}
+use Rattle.points.specs.Filled.{filledBy}
+use Rattle.points.proofs.Fillings.{default-filled}
+use borrow.Author.Needs.{needs}
+use Rattle.points.proofs.own.by_default.Statement.{statement}
+use Rattle.points.proofs.own.by_default.Tie as tie
+use Rattle.points.proofs.own.by_default.Reads as reads
+use Rattle.points.proofs.own.by_default.Lts as lts
+use Rattle.points.proofs.own.filled_by.Reads as filled-by-reads
+use Rattle.rounding.proofs.by_default.Reads as by-default-reads
+
+by-default-requires : tie.Need-by-default-requires
+by-default-requires c κs = search needs
+
+filled-by-requires : tie.Need-filled-by-requires
+filled-by-requires c κs = search needs
+
+returns : tie.Need-returns
+returns c =
+    let a = c .before .before .args in
+    default-filled (a .ps) (a .theta) (a .profile) (a .ca) (a .n) (a .cas) (c .filled-by .result) (c .filled-by .ensures ∙ ap filledBy (c .before .by-default .ensures))
+
+pub by-default-spec : {M : Type 1} → statement M
+by-default-spec = tie.close (tie.spec by-default-requires filled-by-requires returns)

@@ -1,0 +1,4 @@
+pub mod Cases
+pub mod Filled
+pub mod Sources
+pub mod Fits

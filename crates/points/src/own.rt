@@ -1,0 +1,77 @@
+// A year's own points: as read, or profiled from its energy.
+ghost use mathlib.Core.Path.{_≡_};
+ghost use Prim.Native.Nat.{_≤_, _<_};
+ghost use lib.Dec.{T};
+ghost use lib.ListN.{length};
+ghost use Rattle.meaning.specs.Points.{own, byProfile, ownOf, readBy, fromDefault};
+ghost use Rattle.meaning.specs.Blocks.{pointOfCode, slotsSize};
+ghost use Rattle.points.specs.Filled.{filledBy};
+ghost use Rattle.points.specs.Sources.{codeIn, profileIn};
+ghost use Rattle.points.specs.Fits.{isPoint, FilledIs, ProfileIs};
+use crate::Filled;
+use rounding::Energy;
+use rounding::Point;
+use rounding::Power;
+
+const MISSING: u32 = 4294967295;
+
+pub fn filled_by(p: Point) -> Filled
+    ensures { λ r. ⌜ r ≡ filledBy p ⌝ }
+{
+    match p {
+        Point::Is(q) => Filled::Is(q),
+        Point::Exceeds => Filled::Exceeds,
+    }
+}
+
+// The code of a year's point, read in its row.
+pub fn code<'a>(near: &'a [u32], far: &'a [u32], al: u64, year: u64, w: usize, h: usize) -> u32
+    requires { ⌜ (w < 152) × (h < 20) ⌝ }
+    ensures { λ r. ⌜ r ≡ codeIn al (now (near .entry)) (now (far .entry)) year w h ⌝ }
+{
+    let row = curves::row(near, far, al, year);
+    let i = 20 * w + h;
+    if i < row.len() {
+        return row[i];
+    }
+    MISSING
+}
+
+// The profile value of a year's place and half-hour.
+pub fn profile(slots: &[u16], k: usize, w: usize, h: usize) -> u64
+    requires { ⌜ (length (now slots) ≡ slotsSize) × (k < 10) × (w < 152) × (h < 20) ⌝ }
+    ensures { λ r. ⌜ ProfileIs (profileIn (now (slots .entry)) k w h) r ⌝ }
+{
+    let i = 3040 * k + (20 * w + h);
+    slots[i] as u64
+}
+
+// A point as read: W become mW, and a missing one stays missing.
+pub fn measured(code: u32) -> Filled
+    requires { ⌜ T (isPoint code) ⌝ }
+    ensures { λ r. ⌜ FilledIs (ownOf (readBy (pointOfCode code))) r ⌝ }
+{
+    if code == MISSING {
+        return Filled::Missing;
+    }
+    Filled::Is(Power(1000 * (code as u64)))
+}
+
+// Cases 1 and P. An interval without daily sums, or a day without an interval, has the total 0 and no power.
+pub fn profiled(energy: u64, profile: u64, total: u64) -> Filled
+    requires { ⌜ (energy ≤ 1_000_000_000_000) × (profile ≤ 65_535) × (total ≤ 13_815_826_560) ⌝ }
+    ensures { λ r. ⌜ FilledIs (own (byProfile energy profile total)) r ⌝ }
+{
+    if total == 0 {
+        return Filled::Is(Power(0));
+    }
+    filled_by(rounding::profiled(Energy(energy), profile, total))
+}
+
+// Cases 4 and 6.
+pub fn by_default(ps: u64, theta: u64, profile: u64, ca: u64, n: u64, cas: u64) -> Filled
+    requires { ⌜ (ps ≤ 100_000_000) × (theta ≤ 100_000) × (profile ≤ 65_535) × (ca ≤ 9_999) × (n ≤ 10) × (0 < cas) × (cas ≤ 99_990) ⌝ }
+    ensures { λ r. ⌜ FilledIs (fromDefault ps theta profile ca n cas) r ⌝ }
+{
+    filled_by(rounding::by_default(ps, theta, profile, ca, n, cas))
+}

@@ -1,0 +1,19 @@
+use mathlib.Core.Path.{sym, _∙_}
+use borrow.Author.Needs.{needs}
+use Rattle.meaning.specs.Closing.{allWinterDates}
+use Rattle.ranges.proofs.by_year.winter_dates.Statement.{statement}
+use Rattle.ranges.proofs.by_year.winter_dates.Tie as tie
+
+is-leap-requires : tie.Need-is-leap-requires
+is-leap-requires c κs = search needs
+
+returns : tie.Need-returns
+unfolding allWinterDates
+returns c = simp (sym (c .before .is-leap .ensures) ∙ c .if1 .taken)
+
+returns-2 : tie.Need-returns-2
+unfolding allWinterDates
+returns-2 c = simp (sym (c .before .is-leap .ensures) ∙ c .if1 .left)
+
+pub winter-dates-spec : {M : Type 1} → statement M
+winter-dates-spec = tie.close (tie.spec is-leap-requires returns returns-2)

@@ -1,0 +1,10 @@
+pub mod Given
+pub mod Opens
+pub mod Lines
+pub mod Taken
+pub mod Judging
+pub mod Codes
+pub mod Changed
+pub mod Dated
+pub mod Dispatch
+pub mod Same

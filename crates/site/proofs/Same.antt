@@ -1,0 +1,45 @@
+-- Equal views are equal records: what the promises say of views they say of records.
+use mathlib.Core.Path.{_≡_, refl, ap, sym, _∙_}
+use Rattle.meaning.specs.Record.{Rec}
+use Rattle.intake.specs.Views.{meterView, meterShown}
+use Rattle.intake.specs.declared.Meter.{Meter}
+use Rattle.intake.specs.declared.Meter.the-variants.{NoMeter, Curve, Index}
+use Rattle.site.specs.Views.{view}
+use Rattle.site.specs.declared.Record.{Record}
+
+back : (m : Meter) → meterShown (meterView m) ≡ m
+back NoMeter = refl
+back Curve = refl
+back Index = refl
+
+same-meter : (m n : Meter) → meterView m ≡ meterView n → m ≡ n
+same-meter m n e = sym (back m) ∙ ap meterShown e ∙ back n
+
+pub same-record : (r q : Record) → view r ≡ view q → r ≡ q
+same-record r q e = λ i. record {
+  state = ap (λ (s : Rec). s .state) e i;
+  count = ap (λ (s : Rec). s .count) e i;
+  last = ap (λ (s : Rec). s .last) e i;
+  site = record {
+    al = ap (λ (s : Rec). s .site .al) e i;
+    filiere = ap (λ (s : Rec). s .site .filiere) e i;
+    meter = same-meter (r .site .meter) (q .site .meter) (ap (λ (s : Rec). s .site .meter) e) i;
+    ps = ap (λ (s : Rec). s .site .ps) e i;
+  };
+  readings = ap (λ (s : Rec). s .readings) e i;
+  «last_index» = ap (λ (s : Rec). s .lastIndex) e i;
+  lasts = record {
+    c = ap (λ (s : Rec). s .lasts .c) e i;
+    x = ap (λ (s : Rec). s .lasts .x) e i;
+    d = ap (λ (s : Rec). s .lasts .d) e i;
+    p = ap (λ (s : Rec). s .lasts .p) e i;
+    b = ap (λ (s : Rec). s .lasts .b) e i;
+    r = ap (λ (s : Rec). s .lasts .r) e i;
+  };
+  tallies = record {
+    «profile_dates» = ap (λ (s : Rec). s .tallies .profileDates) e i;
+    «daily_dates» = ap (λ (s : Rec). s .tallies .dailyDates) e i;
+    breaks = ap (λ (s : Rec). s .tallies .breaks) e i;
+    rates = ap (λ (s : Rec). s .tallies .rates) e i;
+  };
+}
