@@ -8,3 +8,4 @@ pub mod Demand1
 pub mod Demand2
 pub mod Demand3
 pub mod Witness
+pub mod SomePoints

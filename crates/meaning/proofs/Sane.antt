@@ -35,7 +35,7 @@ not-not : (b : Bool) → T (not (not b)) → T b
 not-not true t = tt
 not-not false t = t
 
-ended : (F : Filing) → closingRefusal F ≡ none → T (F .ended)
+pub ended : (F : Filing) → closingRefusal F ≡ none → T (F .ended)
 unfolding closingRefusal lackOrder lacks
 ended F e = go (first-none (λ k. lacks k F) lackOrder e)
   where
