@@ -1,32 +1,14 @@
--- Where the 20 values of a C or P line go, and as what (document 01, Calls and the lines of a file).
-use mathlib.Core.Bool.{Bool, cond}
+-- Where the 20 values of a P line go, and as what; of a C line, as `point_rows` has it (document 01, Calls and the lines of a file).
 use mathlib.Core.List.{List, map}
-use Prim.Native.Nat.{ℕ, _+_, _≤_, _<_, min}
-use lib.Dec.{leb}
+use Prim.Native.Nat.{ℕ, _+_, min}
 use lib.Seq.{sets}
-use Rattle.meaning.specs.Line.{mostPower, mostProfile}
-use Rattle.meaning.specs.Blocks.{missingPoint, isNear, nearStart, farStart, slotsStart, slotAt}
-
--- a point as the block has it: whatever is no point is missing
-unfoldable pub pointCode : ℕ → ℕ
-pointCode v = cond (leb v mostPower) v missingPoint
+use Rattle.meaning.specs.Line.{mostProfile}
+use Rattle.meaning.specs.Blocks.{slotsStart, slotAt}
+unfoldable pub use Rattle.point_rows.specs.Stores.{pointCode, nearPut, farPut}
+pub use Rattle.point_rows.specs.Stores.{RowPlace}
 
 unfoldable pub profileCode : ℕ → ℕ
 profileCode v = min v mostProfile
-
--- a year from AL-14 to AL-5, and a winter place
-pub record RowPlace (al y w : ℕ) : Type 0 where
-  pub long : 14 ≤ al
-  pub from : al ≤ y + 14
-  pub to : y + 5 ≤ al
-  pub winter : w < 152
-
--- by AL, year and winter place, the codes of a C line into the block that has the year's row
-unfoldable pub nearPut : ℕ → ℕ → ℕ → List ℕ → List ℕ → List ℕ
-nearPut al y w codes near = cond (isNear al y) (sets near (nearStart al y + slotAt w 0) (map pointCode codes)) near
-
-unfoldable pub farPut : ℕ → ℕ → ℕ → List ℕ → List ℕ → List ℕ
-farPut al y w codes far = cond (isNear al y) far (sets far (farStart al y + slotAt w 0) (map pointCode codes))
 
 -- by oldest history year, year and winter place, the values of a P line
 unfoldable pub slotsPut : ℕ → ℕ → ℕ → List ℕ → List ℕ → List ℕ

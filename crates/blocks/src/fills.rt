@@ -1,47 +1,5 @@
-// A block filled with one value, for each type of the lent blocks.
-ghost use mathlib.Core.Path.{_≡_};
-ghost use lib.ListN.{length, replicate};
-
-pub fn fill_u8(block: &mut [u8], letter: u8)
-    ensures { λ _. ⌜ now (block .exit) ≡ replicate (length (now (block .entry))) letter ⌝ }
-{
-    let n = block.len();
-    let mut i = 0;
-    while i < n {
-        block[i] = letter;
-        i += 1;
-    }
-}
-
-pub fn fill_u16(block: &mut [u16], value: u16)
-    ensures { λ _. ⌜ now (block .exit) ≡ replicate (length (now (block .entry))) value ⌝ }
-{
-    let n = block.len();
-    let mut i = 0;
-    while i < n {
-        block[i] = value;
-        i += 1;
-    }
-}
-
-pub fn fill_u32(block: &mut [u32], value: u32)
-    ensures { λ _. ⌜ now (block .exit) ≡ replicate (length (now (block .entry))) value ⌝ }
-{
-    let n = block.len();
-    let mut i = 0;
-    while i < n {
-        block[i] = value;
-        i += 1;
-    }
-}
-
-pub fn fill_u64(block: &mut [u64], value: u64)
-    ensures { λ _. ⌜ now (block .exit) ≡ replicate (length (now (block .entry))) value ⌝ }
-{
-    let n = block.len();
-    let mut i = 0;
-    while i < n {
-        block[i] = value;
-        i += 1;
-    }
-}
+// A block filled with one value, as `fresh_blocks` has it.
+pub use fresh_blocks::fills::fill_u8;
+pub use fresh_blocks::fills::fill_u16;
+pub use fresh_blocks::fills::fill_u32;
+pub use fresh_blocks::fills::fill_u64;

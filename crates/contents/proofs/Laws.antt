@@ -20,7 +20,7 @@ use Rattle.meaning.specs.Line.{mostPower, mostIndex, mostProfile, mostDaily, ki
 use Rattle.meaning.specs.Blocks.{World, missingPoint, rowSize, readingsOf}
 use Rattle.meaning.specs.Record.{Rec, siteOfRec, historyOfSite, historyOfRec, axisOfRec, isDated, pointFits, pointsFit, slotsFit, dailyFits, readingFits, readingsFit, contentsFit}
 use Rattle.contents.specs.Contents.{readingsIn, contentsIn}
-use Rattle.contents.proofs.Columns.{readingAt, follows}
+use Rattle.axis_blocks.proofs.Columns.{readingAt, follows}
 
 -- ---- what is fresh, or dated and at most m
 either : {A : Type 0} (a b c : Bool) → (T a → A) → (T b → T c → A) → T (a || (b && c)) → A

@@ -23,11 +23,11 @@ use Rattle.meaning.specs.Level.{missingEntry, entryOf, pointsIn, presentIn, cou
 use Rattle.meaning.specs.Closing.{tooHigh, lacks}
 use Rattle.meaning.specs.Blocks.{World}
 use Rattle.meaning.specs.Record.{Tallies, filingHeld}
-use Rattle.points.specs.declared.Basis.{Basis}
-use Rattle.points.specs.Sources.{casFrom}
-use Rattle.curve.specs.Tallies.{tally, pointIn, exceedsIn, tallyOf, entryIn}
+use Rattle.donors.specs.declared.Basis.{Basis}
+use Rattle.years.specs.Years.{casFrom}
+use Rattle.tallies.specs.Tallies.{tally, pointIn, exceedsIn, tallyOf, entryIn}
 use Rattle.curve.specs.Places.{Held, held, placesOf, allPlacesIn, basisOf, presentYears, fillingOf, curveEntryIn, curveIn, nccOf}
-use Rattle.curve.proofs.Tallying.{any-join, map-join}
+use Rattle.tallies.proofs.Tallying.{any-join, map-join}
 use Rattle.curve.proofs.Filings.{map-each, map-tab, each-to, Means, few, year-is, all-is}
 
 -- ---- where 18 does not hold, every point is taken

@@ -27,10 +27,13 @@ use Rattle.meaning.specs.Blocks.{World, rowSize, slotAt, slotsStart, missingPoi
 use Rattle.meaning.specs.Record.{Tallies, historyOfSite, profileHeld, byYear, rateOfCode, filingHeld}
 use Rattle.curves.specs.Rows.{rowOf}
 use Rattle.curves.proofs.Filings.{point-is}
-use Rattle.points.specs.declared.Basis.{Basis}
+use Rattle.donors.specs.declared.Basis.{Basis}
 use Rattle.points.specs.Cases.{isSet, meantCase, caseOfCode}
-use Rattle.points.specs.Sources.{Day, codeIn, readIn, profileIn, positionIn, onDay, bit, giversOn, casFrom, casSum, profiledOn, donorBy, curveGiven, indexGiven, donorsAmong, curveDonorsIn, indexDonorsIn, defaultIn, sourceIn}
-use Rattle.curve.specs.Places.{Held, held, dayIn, place, placesOn, placesIn, placesOf, allPlacesIn, basisOf}
+use Rattle.donors.specs.Given.{codeIn, readIn, profileIn, profiledOn, donorBy, curveGiven, indexGiven, donorsAmong}
+use Rattle.years.specs.Years.{positionIn, onDay, bit, giversOn, casFrom, casSum}
+use Rattle.points.specs.Sources.{Day, curveDonorsIn, indexDonorsIn, defaultIn, sourceIn}
+use Rattle.tallies.specs.Tallies.{place}
+use Rattle.curve.specs.Places.{Held, held, dayIn, placesOn, placesIn, placesOf, allPlacesIn, basisOf}
 
 -- ---- lists that agree at each element
 pub map-each : {A B : Type 0} (f g : A → B) {xs : List A} → Each (λ x. f x ≡ g x) xs → map f xs ≡ map g xs

@@ -2,6 +2,5 @@ pub mod Close
 pub mod Filings
 pub mod Given
 pub mod Sites
-pub mod Tallying
 pub mod Walking
 pub mod Years

@@ -17,7 +17,7 @@ use Rattle.calendar.proofs.Laws.{among-words, history-bounds, history-short, hi
 use Rattle.note.specs.Coefficients.{caOf, theta}
 use Rattle.note.proofs.Factors.{theta-most}
 use Rattle.note.proofs.History.{ca-not-zero, ca-at-most}
-use Rattle.points.specs.Sources.{casFrom, casSum}
+use Rattle.years.specs.Years.{casFrom, casSum}
 use Rattle.points.specs.Fits.{AtMost, CasFit, BasisFits}
 use Rattle.curve.specs.Places.{basisOf, held}
 use Rattle.curve.specs.Fits.{SiteFits, ListsFit, HeldFits}

@@ -17,15 +17,20 @@ use Rattle.note.specs.Peaks.{peakDays, peakCount}
 use Rattle.note.proofs.PeakDays.{days-length}
 use Rattle.meaning.specs.Cases.{Case}
 use Rattle.meaning.specs.Points.{Place, Source}
-use Rattle.points.specs.declared.Basis.{Basis}
-use Rattle.points.specs.declared.Filled.{Filled}
-use Rattle.points.specs.Sources.{Day, day, sourceIn, onDay, positionIn}
-use Rattle.points.specs.Fits.{FilledIs, RateFits, AtMost, DayFits}
-use Rattle.curve.specs.declared.Tally.{Tally}
-use Rattle.curve.specs.Tallies.{tally, tallyOf, entriesOf, plus, entryFilled, tallyFilled, entryIn}
-use Rattle.curve.specs.Places.{Held, dayIn, place, placesOn, placesIn}
-use Rattle.curve.specs.Fits.{TallyFits, Entered, HeldFits}
-use Rattle.curve.proofs.Tallying.{nothing-plus, plus-nothing, tally-on, curve-on, entry-is, tally-is, one-fits, plus-fits, nothing-fits}
+use Rattle.donors.specs.declared.Basis.{Basis}
+use Rattle.donors.specs.declared.Filled.{Filled}
+use Rattle.donors.specs.Fits.{FilledIs}
+use Rattle.years.specs.declared.Day.{Day as YearsOnDay}
+use Rattle.years.specs.Years.{yearsOn, onDay, positionIn}
+use Rattle.points.specs.Sources.{Day, dayWith, sourceIn}
+use Rattle.points.specs.Fits.{RateFits, AtMost, DayFits}
+use Rattle.tallies.specs.declared.Tally.{Tally}
+use Rattle.tallies.specs.Tallies.{tally, tallyOf, entriesOf, plus, entryFilled, tallyFilled, entryIn}
+use Rattle.tallies.specs.Tallies.{place}
+use Rattle.curve.specs.Places.{Held, dayIn, placesOn, placesIn}
+use Rattle.tallies.specs.Fits.{TallyFits}
+use Rattle.curve.specs.Fits.{Entered, HeldFits}
+use Rattle.tallies.proofs.Tallying.{nothing-plus, plus-nothing, tally-on, curve-on, entry-is, tally-is, one-fits, plus-fits, nothing-fits}
 
 pub record Walked (n at : ℕ) (all rest : List Place) (before present : List ℕ) (i : ℕ) (t : Tally) : Type 0 where
   pub fits : TallyFits n t
@@ -122,13 +127,19 @@ day-most m xs w h i = go (ltb i 10) refl
     go true e = rw (getD-tab0 10 at i 0 (ltb-true i 10 e)) (h (positionIn i w))
     go false e = rw (List·getD-eq-default (tab 10 0 at) 0 {n = i} (omega (arith, length-tab 10 0 at, ltb-false i 10 e))) (omega arith)
 
-pub day-fits : (b : Basis) (l : Held) (w : ℕ) (e t g : List ℕ) → HeldFits b l → e ≡ onDay (l .energies) w → t ≡ onDay (l .totals) w
-    → DayFits b (day (l .near) (l .far) (l .slots) e t g (l .curves) (l .cas))
-day-fits b l w e t g f p q =
+pub day-fits : (b : Basis) (l : Held) (w : ℕ) → HeldFits b l → DayFits b (dayIn (b .first) l w)
+unfolding dayIn
+day-fits b l w f =
     record {
       points = f .points;
       slots = f .slots;
-      energies = rw p (day-most 1000000000000 (l .energies) w (f .energies));
-      totals = rw q (day-most 13815826560 (l .totals) w (f .totals));
+      energies = day-most 1000000000000 (l .energies) w (f .energies);
+      totals = day-most 13815826560 (l .totals) w (f .totals);
       cas = f .cas;
     }
+
+-- what was looked up for a day makes the day
+pub day-is : (first : ℕ) (l : Held) (w : ℕ) (on : YearsOnDay) → on ≡ yearsOn (l .energies) (l .totals) (l .indexes) first w
+    → dayWith (l .near) (l .far) (l .slots) on (l .curves) (l .cas) ≡ dayIn first l w
+unfolding dayIn yearsOn
+day-is first l w on e = ap (λ (d : YearsOnDay). dayWith (l .near) (l .far) (l .slots) d (l .curves) (l .cas)) e

@@ -17,12 +17,13 @@ use Rattle.note.proofs.PeakDays.{days-length, most-days}
 use Rattle.meaning.specs.Cases.{Case}
 use Rattle.meaning.specs.Points.{Place}
 use Rattle.meaning.specs.Level.{missingEntry}
-use Rattle.points.specs.declared.Basis.{Basis}
-use Rattle.curve.specs.declared.Tally.{Tally}
-use Rattle.curve.specs.Tallies.{tally, tallyOf, entryIn, entriesOf, plus}
+use Rattle.donors.specs.declared.Basis.{Basis}
+use Rattle.tallies.specs.declared.Tally.{Tally}
+use Rattle.tallies.specs.Tallies.{tally, tallyOf, entryIn, entriesOf, plus}
 use Rattle.curve.specs.Places.{Held, dayIn, placesOn, placesIn}
-use Rattle.curve.specs.Fits.{TallyFits, Entered}
-use Rattle.curve.proofs.Tallying.{nothing-plus, plus-nothing, tally-on, plus-fits, nothing-fits}
+use Rattle.tallies.specs.Fits.{TallyFits}
+use Rattle.curve.specs.Fits.{Entered}
+use Rattle.tallies.proofs.Tallying.{nothing-plus, plus-nothing, tally-on, plus-fits, nothing-fits}
 use Rattle.curve.proofs.Walking.{hours-length}
 
 -- ---- how many places a year has

@@ -9,11 +9,12 @@ use Rattle.calendar.specs.Spans.{isKnown}
 use Rattle.note.specs.Peaks.{peakDays}
 use Rattle.meaning.specs.Points.{Place}
 use Rattle.meaning.specs.Blocks.{slotsSize}
-use Rattle.points.specs.declared.Basis.{Basis}
+use Rattle.donors.specs.declared.Basis.{Basis}
 use Rattle.points.specs.Fits.{AtMost, PointsFit, CasFit, RatesFit, BasisFits}
-use Rattle.curve.specs.declared.Tally.{Tally}
+use Rattle.tallies.specs.declared.Tally.{Tally}
 use Rattle.curve.specs.declared.Filling.{Filling}
-use Rattle.curve.specs.Tallies.{tallyOf, entriesOf}
+use Rattle.tallies.specs.Tallies.{tallyOf, entriesOf}
+use Rattle.tallies.specs.Fits.{TallyFits}
 use Rattle.curve.specs.Places.{Held, basisOf, fillingOf, curveIn}
 
 pub record HeldFits (b : Basis) (l : Held) : Type 0 where
@@ -36,11 +37,6 @@ pub record ListsFit (al : ℕ) (near far profiles es ts rs : List ℕ) : Type 0 
   pub energies : AtMost 1000000000000 es
   pub totals : AtMost 13815826560 ts
   pub rates : RatesFit rs
-
--- ---- a tally of n places: no point is above 20,000,000,000,000 mW after its rate
-pub record TallyFits (n : ℕ) (t : Tally) : Type 0 where
-  pub sum : t .sum ≤ 20000000000000 * t .counted
-  pub counted : t .counted ≤ n
 
 -- some places were entered from place `at` of the curve on
 pub record Entered (n at : ℕ) (qs : List Place) (before after : List ℕ) (t : Tally) : Type 0 where

@@ -10,14 +10,15 @@ use Rattle.note.specs.Peaks.{peakDays, peakCount}
 use Rattle.note.specs.Coefficients.{theta, coefficientC}
 use Rattle.rounding.specs.Points.{rounded, level}
 use Rattle.meaning.specs.Cases.{Case}
-use Rattle.meaning.specs.Points.{Place, Source}
+use Rattle.meaning.specs.Points.{Place}
 use Rattle.meaning.specs.Level.{missingEntry}
-use Rattle.meaning.specs.Record.{rateOfCode}
-use Rattle.points.specs.declared.Basis.{Basis}
+use Rattle.donors.specs.declared.Basis.{Basis}
 use Rattle.points.specs.Cases.{meantCase, caseOfCode}
-use Rattle.points.specs.Sources.{Day, day, sourceIn, onDay, giversOn, casFrom, casSum}
+use Rattle.years.specs.Years.{onDay, giversOn, casFrom, casSum}
+use Rattle.points.specs.Sources.{Day, day, sourceIn}
 use Rattle.curve.specs.declared.Filling.{Filling}
-use Rattle.curve.specs.Tallies.{tallyOf, entryIn}
+use Rattle.curve.specs.declared.Marks.{Marks}
+use Rattle.tallies.specs.Tallies.{place, tallyOf, entryIn}
 
 -- points and slot profiles, E and daily total by position, and by history year valid curves, valid indexes and CA
 pub record Held : Type 0 where
@@ -33,14 +34,18 @@ pub record Held : Type 0 where
 abbrev pub held : List ℕ → List ℕ → List ℕ → List ℕ → List ℕ → List ℕ → List ℕ → List ℕ → Held
 held n f s e t v i c = record { near = n; far = f; slots = s; energies = e; totals = t; curves = v; indexes = i; cas = c }
 
+-- with the marks of the history years and their CA
+abbrev pub marks : List ℕ → List ℕ → List ℕ → Marks
+marks v i c = record { curves = v; indexes = i; cas = c }
+
+abbrev pub heldWith : List ℕ → List ℕ → List ℕ → List ℕ → List ℕ → Marks → Held
+heldWith n f s e t m = held n f s e t (m .curves) (m .indexes) (m .cas)
+
 -- what the points of a winter day are made from
 unfoldable pub dayIn : ℕ → Held → ℕ → Day
 dayIn first l w = day (l .near) (l .far) (l .slots) (onDay (l .energies) w) (onDay (l .totals) w) (giversOn (l .indexes) first w) (l .curves) (l .cas)
 
 -- ---- places: k is a year's number from the oldest, w a winter place, h a half-hour
-abbrev pub place : ℕ → Source → Place
-place rate s = record { rate = rateOfCode rate; source = s }
-
 unfoldable pub placesOn : Basis → Day → Case → ℕ → ℕ → ℕ → List Place
 placesOn b d x rate k w = tab 20 0 (λ h. place rate (sourceIn b d x k w h))
 

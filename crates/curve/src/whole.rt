@@ -3,63 +3,47 @@ ghost use mathlib.Core.Path.{_≡_};
 ghost use Prim.Native.Nat.{_≤_, _<_};
 ghost use lib.ListN.{replicate};
 ghost use Rattle.meaning.specs.Level.{missingEntry};
-ghost use Rattle.points.specs.Sources.{casFrom};
-ghost use Rattle.points.specs.Fits.{BasisFits, RatesFit};
-ghost use Rattle.curve.specs.Places.{held, basisOf};
+ghost use Rattle.years.specs.Years.{casFrom};
+ghost use Rattle.donors.specs.Fits.{BasisFits};
+ghost use Rattle.points.specs.Fits.{RatesFit};
+ghost use Rattle.curve.specs.Places.{held, heldWith, marks, basisOf};
 ghost use Rattle.curve.specs.Fits.{HeldFits, SiteFits, ListsFit, BasisIs, Filled};
 use crate::Filling;
-use crate::Tally;
-use crate::tallies;
+use crate::Marks;
 use crate::walk;
-use points::Basis;
+use donors::Basis;
+use points::Year;
 use points::cases;
-use points::years;
+use years::factors;
 
 // Each year in turn, from a curve whose entries are all missing. A year's points do not stop where one is refusal 18: the curve is then not used.
 fn all_years<'a>(
     b: Basis,
+    m: Marks,
     near: &'a [u32],
     far: &'a [u32],
     slots: &[u16],
     energies: &[u64; 4392],
     totals: &[u64; 4392],
-    curves: &[u64; 10],
-    indexes: &[u64; 10],
-    cas: &[u64; 10],
     codes: &[u64; 10],
     rates: &[u64; 10],
     curve: &mut [u64; 4400],
 ) -> Filling
-    requires { ⌜ BasisFits b × HeldFits b (held (now near) (now far) (now slots) (now energies) (now totals) (now curves) (now indexes) (now cas)) × RatesFit (now rates) ⌝ }
+    requires { ⌜ BasisFits b × HeldFits b (heldWith (now near) (now far) (now slots) (now energies) (now totals) m) × RatesFit (now rates) ⌝ }
     requires { ⌜ now curve ≡ replicate 4400 missingEntry ⌝ }
-    ensures { λ r. ⌜ Filled b (held (now (near .entry)) (now (far .entry)) (now (slots .entry)) (now (energies .entry)) (now (totals .entry)) (now (curves .entry)) (now (indexes .entry)) (now (cas .entry))) (now (codes .entry)) (now (rates .entry)) (now (curve .exit)) r ⌝ }
+    ensures { λ r. ⌜ Filled b (heldWith (now (near .entry)) (now (far .entry)) (now (slots .entry)) (now (energies .entry)) (now (totals .entry)) m) (now (codes .entry)) (now (rates .entry)) (now (curve .exit)) r ⌝ }
 {
     let n = b.count as usize;
-    let mut t = Tally {
-        exceeds: false,
-        sum: 0,
-        counted: 0,
-    };
+    let mut t = tallies::NOTHING;
     let mut present = [0u64; 10];
     let mut k = 0;
     while k < n {
-        let y = walk::year_places(
-            b,
-            cases::case_at(codes[k]),
-            rates[k],
-            k,
-            near,
-            far,
-            slots,
-            energies,
-            totals,
-            curves,
-            indexes,
-            cas,
-            curve,
-        );
-        present[k] = y.counted;
-        t = tallies::plus(t, y);
+        let case = cases::case_at(codes[k]);
+        let rate = rates[k];
+        let y = Year { k, case, rate };
+        let p = walk::year_places(b, m, y, near, far, slots, energies, totals, curve);
+        present[k] = p.counted;
+        t = tallies::plus(t, p);
         k += 1;
     }
     Filling {
@@ -76,7 +60,7 @@ fn basis_of(al: u64, filiere: u64, ps: u64) -> Basis
     ensures { λ r. ⌜ BasisIs al filiere ps r ⌝ }
 {
     let h = calendar::spans::history(al, filiere);
-    let cas = years::cas_from(h.first, filiere);
+    let cas = factors::cas_from(h.first, filiere);
     let n = h.count as usize;
     Basis {
         al,
@@ -84,7 +68,21 @@ fn basis_of(al: u64, filiere: u64, ps: u64) -> Basis
         count: h.count,
         ps,
         theta: note::coefficients::theta(filiere),
-        cas: years::cas_sum(&cas, n),
+        cas: factors::cas_sum(&cas, n),
+    }
+}
+
+// The marks of the history years with their CA.
+fn marks_of(curves: &[u64; 10], indexes: &[u64; 10], first: u64, filiere: u64) -> Marks
+    requires { ⌜ first ≤ 2021 ⌝ }
+    ensures { λ r. ⌜ r ≡ marks (now (curves .entry)) (now (indexes .entry)) (casFrom first filiere) ⌝ }
+{
+    let c = *curves;
+    let i = *indexes;
+    Marks {
+        curves: c,
+        indexes: i,
+        cas: factors::cas_from(first, filiere),
     }
 }
 
@@ -109,17 +107,15 @@ pub fn fill<'a>(
     ensures { λ r. ⌜ Filled (basisOf al filiere ps) (held (now (near .entry)) (now (far .entry)) (now (slots .entry)) (now (energies .entry)) (now (totals .entry)) (now (curves .entry)) (now (indexes .entry)) (casFrom (basisOf al filiere ps .first) filiere)) (now (codes .entry)) (now (rates .entry)) (now (curve .exit)) r ⌝ }
 {
     let b = basis_of(al, filiere, ps);
-    let cas = years::cas_from(b.first, filiere);
+    let m = marks_of(curves, indexes, b.first, filiere);
     all_years(
         b,
+        m,
         near,
         far,
         slots,
         energies,
         totals,
-        curves,
-        indexes,
-        &cas,
         codes,
         rates,
         curve,

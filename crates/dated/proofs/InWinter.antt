@@ -27,7 +27,7 @@ use Rattle.judge.specs.Order.{numberBy, firstNumber, isLate}
 use Rattle.judge.proofs.Chain.{Asks, clear, barred-late, barred-rank, never-soon, never-falling, never-many, no-count}
 use Rattle.judge.proofs.ByTag.{number-is}
 use Rattle.dated.specs.Places.{placeOr, keyFor, pointsLate}
-use Rattle.dated.proofs.Dates.{history-low, key-on, winter-on}
+use Rattle.date_keys.proofs.Dates.{history-low, key-on, winter-on}
 use Rattle.dated.proofs.Judged.{DateSays}
 
 -- a year off the span, or some value outside

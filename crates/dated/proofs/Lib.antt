@@ -1,4 +1,3 @@
-pub mod Dates
 pub mod Judged
 pub mod OnAxis
 pub mod InWinter

@@ -24,7 +24,7 @@ use Rattle.judge.specs.Order.{numberBy, firstNumber, isLate}
 use Rattle.judge.proofs.Chain.{Asks, clear, barred-rank, never-soon, never-falling, never-many, no-count}
 use Rattle.judge.proofs.ByTag.{number-is, not-both}
 use Rattle.dated.specs.Places.{placeOr, keyFor}
-use Rattle.dated.proofs.Dates.{axis-low, key-on, position-on}
+use Rattle.date_keys.proofs.Dates.{axis-low, key-on, position-on}
 use Rattle.dated.proofs.Judged.{ReadingSays, DailySays}
 
 -- a number above its bound, or a year off the span

@@ -1,21 +1,11 @@
--- The place and the key of numbers that may be no date: 0 where there is none.
-use mathlib.Core.Bool.{Bool, cond, _||_}
-use Prim.Native.Nat.{ℕ, _+_, _*_}
-use lib.Dec.{ltb}
-use Rattle.calendar.specs.Answers.{datePlaceOf}
-use Rattle.calendar.specs.declared.Place.{Place}
-use Rattle.calendar.specs.declared.Place.the-variants.{At, Nowhere}
+-- 4 of C, and the place and the key of a date, as `date_keys` has them.
+use mathlib.Core.Bool.{Bool, _||_}
+use Prim.Native.Nat.{ℕ}
 use Rattle.meaning.specs.Filing.{Meter}
 use Rattle.meaning.specs.File.{isIndexMeter}
 use Rattle.judge.specs.Order.{isLate}
-
-abbrev pub placeOr : Place → ℕ
-placeOr (At p) = p
-placeOr Nowhere = 0
-
--- no span has a year of five digits
-unfoldable pub keyFor : ℕ → ℕ → ℕ → ℕ
-keyFor y m d = cond (ltb 9999 y) 0 (366 * y + placeOr (datePlaceOf m d))
+unfoldable pub use Rattle.date_keys.specs.Places.{keyFor}
+pub use Rattle.date_keys.specs.Places.{placeOr}
 
 -- 4 of C: out of order, or in an I file
 unfoldable pub pointsLate : ℕ → Meter → Bool

@@ -1,16 +1,16 @@
 // X and D: a date of an axis year, and a number.
 use crate::DailyJudged;
 use crate::ReadingJudged;
-use crate::places::key_of;
-use crate::places::lacks_date;
-use crate::places::position_at;
 use calendar::spans::axis;
 use calendar::spans::is_among;
+use checks::Checks;
+use checks::first;
+use checks::is_late;
+use checks::is_reached;
+use date_keys::places::key_of;
+use date_keys::places::lacks_date;
+use date_keys::places::position_at;
 use intake::both;
-use judge::Checks;
-use judge::first;
-use judge::is_late;
-use judge::is_reached;
 ghost use mathlib.Core.Path.{_≡_};
 ghost use Rattle.calendar.specs.Spans.{historyYears};
 ghost use Rattle.meaning.specs.Line.{X, D};

@@ -1,6 +1,5 @@
 // The refusals 4 to 12 of a line with a date: C, P, X and D.
 mod axis; // X and D
-mod places; // the place and the key of a date
 mod winter; // C and P
 
 pub use axis::judge_daily;

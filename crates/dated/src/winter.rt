@@ -1,16 +1,16 @@
 // C and P: a winter date of a history year, and 20 values, handed out as their codes whatever the answer.
 use crate::DateJudged;
-use crate::places::key_of;
-use crate::places::lacks_date;
-use crate::places::winter_at;
 use calendar::spans::history;
 use calendar::spans::is_among;
+use checks::Checks;
+use checks::first;
+use checks::is_late;
+use checks::is_reached;
+use date_keys::places::key_of;
+use date_keys::places::lacks_date;
+use date_keys::places::winter_at;
 use intake::Meter;
 use intake::both;
-use judge::Checks;
-use judge::first;
-use judge::is_late;
-use judge::is_reached;
 use values::points_outside;
 use values::profiles_outside;
 use values::read_points;

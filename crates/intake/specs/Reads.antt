@@ -1,27 +1,20 @@
 -- What is read off a line, whatever bytes it has: its tag, whether its fields are in their forms, and its numbers up to the most.
-use mathlib.Core.Bool.{Bool, not, cond}
-use mathlib.Core.List.{List, [], _∷_, map}
+use mathlib.Core.Bool.{Bool, not}
+use mathlib.Core.List.{List}
 use Prim.Native.Nat.{ℕ, min}
 use Rattle.text.specs.Fields.{past, fieldAt}
 use Rattle.text.specs.Numbers.{most}
-use Rattle.meaning.specs.Line.{Line, Tag, S, C, X, D, P, B, R, E, other, rank, size, tagOf, Form, formsOf, inForm, someField, numberAt, meterOf, kindOf}
-use Rattle.meaning.specs.Refusals.{isUnknown}
+use Rattle.meaning.specs.Line.{Line, Tag, S, X, D, B, R, E, Form, formsOf, inForm, someField, numberAt, meterOf, kindOf}
 use Rattle.meaning.specs.Blocks.{letterOfKind}
 use Rattle.intake.specs.Views.{meterShown}
+unfoldable pub use Rattle.tags.specs.Tags.{knownTag}
+pub use Rattle.tags.specs.Tags.{sizes}
 use Rattle.intake.specs.declared.SiteRead.{SiteRead}
 use Rattle.intake.specs.declared.ReadingRead.{ReadingRead}
 use Rattle.intake.specs.declared.DailyRead.{DailyRead}
 use Rattle.intake.specs.declared.YearRead.{YearRead}
 use Rattle.intake.specs.declared.RateRead.{RateRead}
 use Rattle.intake.specs.declared.CountRead.{CountRead}
-
--- 3: the rank of the line's tag, 0 where the tag is unknown or the number of fields wrong
-unfoldable pub knownTag : Line → ℕ
-knownTag l = cond (isUnknown l) 0 (rank (tagOf l))
-
--- the number of fields by rank, the tag included
-abbrev pub sizes : List ℕ
-sizes = map size (other ∷ S ∷ C ∷ X ∷ D ∷ P ∷ B ∷ R ∷ E ∷ [])
 
 -- 5: whether the first fields of what is left of a line are in their forms
 unfoldable pub inForms : List Form → List ℕ → Bool

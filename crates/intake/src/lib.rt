@@ -1,21 +1,21 @@
-// One line's form: from its bytes to its tag and its numbers.
+// One line's form: from its bytes to its tag, as `tags` has it, and its numbers.
 //
 // Each reader takes any bytes. It says whether every field after the tag is in its form (5), and hands out each number up to 10^18, which is above
 // every range that a field has, so that 6 and 7 can be judged on the numbers alone.
 mod dated; // X and D
-mod form; // a line's bytes and its tag
 mod parts; // the tag passed, and the date past it
 mod site_line; // S
 mod years; // B, R and E
 
 pub use dated::read_daily;
 pub use dated::read_reading;
-pub use form::is_illegible;
-pub use form::known_tag;
 pub use parts::after_tag;
 pub use parts::both;
 pub use parts::date_fields;
+pub use site_line::is_too_soon;
 pub use site_line::read_site;
+pub use tags::is_illegible;
+pub use tags::known_tag;
 pub use years::read_count;
 pub use years::read_rate;
 pub use years::read_year;

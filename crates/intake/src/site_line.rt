@@ -6,6 +6,7 @@ use crate::parts::after_tag;
 use crate::parts::both;
 ghost use mathlib.Core.Path.{_≡_};
 ghost use Rattle.meaning.specs.Line.{meterOf, isMeter};
+ghost use Rattle.meaning.specs.Refusals.{isTooSoon};
 ghost use Rattle.intake.specs.Views.{meterView, meterShown};
 ghost use Rattle.intake.specs.Reads.{siteReadOf};
 
@@ -32,6 +33,13 @@ fn is_meter(meter: Meter) -> bool
         Meter::Curve => true,
         Meter::Index => true,
     }
+}
+
+// 9: filières 6 to 11 are certified from AL 2023 on.
+pub fn is_too_soon(al: u64, filiere: u64) -> bool
+    ensures { λ r. ⌜ r ≡ isTooSoon al filiere ⌝ }
+{
+    both(6 <= filiere, al < 2023)
 }
 
 pub fn read_site(line: &[u8]) -> SiteRead

@@ -1,5 +1,4 @@
 pub mod Fills
-pub mod Trust
 pub mod Winter
 pub mod Filed
 pub mod Valid

@@ -5,17 +5,12 @@ use Prim.Native.Nat.{ℕ, _+_, _-_}
 use lib.Dec.{leb, ltb}
 use lib.ListN.{getD}
 use Rattle.lists.specs.Lists.{all, range}
-use Rattle.meaning.specs.Filing.{isTrusted}
-use Rattle.meaning.specs.Line.{kindOfLetter}
 use Rattle.intervals.specs.Columns.{opens, closes, january, meetsWinter}
+unfoldable pub use Rattle.winters.specs.Columns.{isTrustedAt}
 
 -- readings rise: the first stands on or before the 1 January at s, and the last on or after the next one
 unfoldable pub coversYear : List ℕ → ℕ → ℕ → Bool
 coversYear ps n s = ltb 0 n && (leb (getD ps 0 0) s && leb (s + 366) (getD ps (n - 1) 0))
-
--- a reading is real or corrected
-unfoldable pub isTrustedAt : List ℕ → ℕ → Bool
-isTrustedAt ks i = isTrusted (kindOfLetter (getD ks i 69))
 
 -- an interval with a winter day of the year has both ends real or corrected
 unfoldable pub isSoundAt : List ℕ → List ℕ → ℕ → ℕ → Bool

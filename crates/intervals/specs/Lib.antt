@@ -1,4 +1,3 @@
 pub mod Columns
 pub mod Index
 pub mod Days
-pub mod Steps

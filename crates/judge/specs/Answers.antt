@@ -1,5 +1,5 @@
 -- What is answered of a line: the refusal's number, and what an accepted line says, 0 where it is refused.
-use mathlib.Core.Option.{Option, some, none}
+use mathlib.Core.Option.{Option}
 use Rattle.meaning.specs.Filing as meant
 use Rattle.meaning.specs.Filing.{noSite}
 use Rattle.meaning.specs.Line.{Line, numberAt, yearOn, siteOn}
@@ -7,15 +7,11 @@ use Rattle.meaning.specs.Refusals.{Reason}
 use Rattle.intake.specs.Views.{meterShown}
 use Rattle.intake.specs.declared.Site.{Site}
 use Rattle.judge.specs.Order.{numberBy}
+pub use Rattle.checks.specs.Order.{whereTaken}
 use Rattle.judge.specs.declared.SiteJudged.{SiteJudged}
 use Rattle.judge.specs.declared.YearJudged.{YearJudged}
 use Rattle.judge.specs.declared.RateJudged.{RateJudged}
 use Rattle.judge.specs.declared.EndJudged.{EndJudged}
-
--- a where the line is accepted, d where it is refused
-abbrev pub whereTaken : {A : Type 0} → Option Reason → A → A → A
-whereTaken none a d = a
-whereTaken (some y) a d = d
 
 -- a site as the code has it
 abbrev pub siteShown : meant.Site → Site

@@ -1,25 +1,19 @@
 // S and E: the first line of a file and its last.
-use crate::Checks;
 use crate::EndJudged;
 use crate::SiteJudged;
-use crate::order::first;
-use crate::order::is_late;
-use crate::order::is_within;
+use checks::Checks;
+use checks::first;
+use checks::is_late;
+use checks::is_within;
 use intake::Meter;
 use intake::Site;
 use intake::both;
+use intake::is_too_soon;
 ghost use mathlib.Core.Path.{_≡_};
 ghost use Rattle.meaning.specs.Line.{S, E};
-ghost use Rattle.meaning.specs.Refusals.{isTooSoon, refusal};
+ghost use Rattle.meaning.specs.Refusals.{refusal};
 ghost use Rattle.judge.specs.Before.{Known, beforeFirst, beforeEnd};
 ghost use Rattle.judge.specs.Answers.{siteJudged, endJudged};
-
-// 9: filières 6 to 11 are certified from AL 2023 on.
-fn is_too_soon(al: u64, filiere: u64) -> bool
-    ensures { λ r. ⌜ r ≡ isTooSoon al filiere ⌝ }
-{
-    both(6 <= filiere, al < 2023)
-}
 
 pub fn judge_site(line: &[u8], last: u64) -> SiteJudged
     requires { ⌜ Known S (now line) ⌝ }

@@ -1,13 +1,13 @@
 // B and R: a history year, and its rate.
-use crate::Checks;
 use crate::RateJudged;
 use crate::YearJudged;
-use crate::order::first;
-use crate::order::is_late;
-use crate::order::is_reached;
-use crate::order::is_within;
 use calendar::spans::history;
 use calendar::spans::is_among;
+use checks::Checks;
+use checks::first;
+use checks::is_late;
+use checks::is_reached;
+use checks::is_within;
 use intake::both;
 ghost use mathlib.Core.Path.{_≡_};
 ghost use Rattle.calendar.specs.Spans.{historyYears};

@@ -1,29 +1,44 @@
 -- What an accepted line passed: no condition of 2 to 12 holds of it, and what that says of each of its fields.
-use mathlib.Core.Path.{_≡_, refl, sym, _∙_}
-use mathlib.Core.Bool.{Bool, true, false, not, _&&_, _||_}
+use mathlib.Core.Path.{_≡_, refl}
+use mathlib.Core.Bool.{Bool, true, false, not}
 use mathlib.Core.List.{List, [], _∷_}
-use mathlib.Core.Option.{Option, some, none}
-use Prim.Native.Nat.{ℕ, zero, suc, _+_, _<_}
+use mathlib.Core.Option.{none}
+use Prim.Native.Nat.{ℕ, zero, suc, _<_}
 use native.Mathlib.Nat.{le-of-suc-le-suc, not-suc-le-zero}
-use native.Mathlib.Omega.{arith}
 use lib.Dec.{T}
 use lib.ListN.{length, getD}
-use Rattle.lists.specs.Lists.{firstOf, Each, each-nil, each-cons}
+use Rattle.lists.specs.Lists.{Each, each-cons}
 use Rattle.lists.proofs.Laws.{first-none, or-split}
 use Rattle.text.specs.Fields.{upTo, past, restAt, fieldAt}
 use Rattle.meaning.specs.Line.{Line, Form, edition, someField, formsOf, inForm, inRange, tagOf}
 use Rattle.meaning.specs.Refusals.{Before, Reason, illegible, unknown, misplaced, malformed, outside, noDate, notLater, tooSoon, falling, tooMany, miscounted, holds, order, refusal, isMalformed, isOutside}
 
+-- the first of each, and the rest
+pub each-head : {A : Type 0} {P : A → Type 0} {x : A} {xs : List A} → Each P (x ∷ xs) → P x
+each-head (each-cons q r) = q
+
+pub each-tail : {A : Type 0} {P : A → Type 0} {x : A} {xs : List A} → Each P (x ∷ xs) → Each P xs
+each-tail (each-cons q r) = r
+
+-- what each of the order has, each reason has
+pub each-reason : {Q : Reason → Type 0} → Each Q order → (y : Reason) → Q y
+unfolding order
+each-reason e illegible = each-head e
+each-reason e unknown = each-head (each-tail e)
+each-reason e misplaced = each-head (each-tail (each-tail e))
+each-reason e malformed = each-head (each-tail (each-tail (each-tail e)))
+each-reason e outside = each-head (each-tail (each-tail (each-tail (each-tail e))))
+each-reason e noDate = each-head (each-tail (each-tail (each-tail (each-tail (each-tail e)))))
+each-reason e notLater = each-head (each-tail (each-tail (each-tail (each-tail (each-tail (each-tail e))))))
+each-reason e tooSoon = each-head (each-tail (each-tail (each-tail (each-tail (each-tail (each-tail (each-tail e)))))))
+each-reason e falling = each-head (each-tail (each-tail (each-tail (each-tail (each-tail (each-tail (each-tail (each-tail e))))))))
+each-reason e tooMany = each-head (each-tail (each-tail (each-tail (each-tail (each-tail (each-tail (each-tail (each-tail (each-tail e)))))))))
+each-reason e miscounted = each-head (each-tail (each-tail (each-tail (each-tail (each-tail (each-tail (each-tail (each-tail (each-tail (each-tail e))))))))))
+
 -- none of the reasons holds
 pub passed : (b : Before) (l : Line) → refusal b l ≡ none → (y : Reason) → T (not (holds y b l))
-unfolding refusal order
-passed b l e = go (first-none (λ y. holds y b l) order e)
-  where
-    go : Each (λ (y : Reason). T (not (holds y b l)))
-        (illegible ∷ unknown ∷ misplaced ∷ malformed ∷ outside ∷ noDate ∷ notLater ∷ tooSoon ∷ falling ∷ tooMany ∷ miscounted ∷ [])
-        → (y : Reason) → T (not (holds y b l))
-    go (each-cons a (each-cons b1 (each-cons c (each-cons d (each-cons e1 (each-cons f (each-cons g (each-cons h (each-cons i (each-cons j (each-cons k r))))))))))) =
-        elim [ illegible ↦ a | unknown ↦ b1 | misplaced ↦ c | malformed ↦ d | outside ↦ e1 | noDate ↦ f | notLater ↦ g | tooSoon ↦ h | falling ↦ i | tooMany ↦ j | miscounted ↦ k ]
+unfolding refusal
+passed b l e = each-reason (first-none (λ y. holds y b l) order e)
 
 -- ---- each field passed its test
 no-field : (fails : Form → List ℕ → Bool) (ms : List Form) (l : List ℕ) → T (not (someField fails ms l)) → (k : ℕ) → k < length ms

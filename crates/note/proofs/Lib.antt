@@ -1,5 +1,4 @@
 pub mod Table
 pub mod PeakDays
-pub mod Annual
 pub mod Factors
 pub mod History

@@ -2,4 +2,3 @@
 mod annex1;
 pub mod coefficients;
 pub mod peaks;
-mod tables;

@@ -1,3 +1,1 @@
-pub mod Fillings
-pub mod Gathered
 pub mod Marks

@@ -1,5 +1,5 @@
 -- The case of a year as a code and as an enum (document 01, Cases).
-use mathlib.Core.Bool.{Bool, true, false, not, cond}
+use mathlib.Core.Bool.{Bool, true, false, cond}
 use mathlib.Core.List.{List}
 use Prim.Native.Nat.{ℕ}
 use lib.Dec.{eqb, ltb}
@@ -9,6 +9,7 @@ use Rattle.meaning.specs.Filing.{Meter, noMeter, curveMeter, indexMeter}
 use Rattle.meaning.specs.Cases.{caseM, case1, case2, case3, case4, caseP, case5, case6, Mark, mark, curveCase, indexCase, caseBy}
 use Rattle.meaning.specs.Cases.{Case as DocumentCase}
 use Rattle.points.specs.declared.Case.{Case}
+unfoldable pub use Rattle.years.specs.Years.{isSet}
 use Rattle.points.specs.declared.Case.the-variants.{M, T1, T2, T3, T4, P, I5, I6}
 
 -- the case that each variant is
@@ -50,9 +51,6 @@ caseOfCode n =
     cond (eqb n 0) M (cond (eqb n 1) T1 (cond (eqb n 2) T2 (cond (eqb n 3) T3 (cond (eqb n 4) T4 (cond (eqb n 5) I5 (cond (eqb n 6) I6 P))))))
 
 -- ---- the marks of the history years, each 0 or not
-unfoldable pub isSet : ℕ → Bool
-isSet n = not (eqb n 0)
-
 -- the two marks of the k-th year
 unfoldable pub markIn : List ℕ → List ℕ → ℕ → Mark
 markIn curves indexes k = mark (isSet (getD curves k 0)) (isSet (getD indexes k 0))

@@ -1,4 +1,3 @@
 pub mod Cases
-pub mod Filled
 pub mod Sources
 pub mod Fits

@@ -1,34 +1,3 @@
--- 1, field by field: the range of a number of S, and of a year's number in each tally (document 01, Stops that come from the input).
-use mathlib.Core.Bool.{Bool, _&&_, _||_, not, cond}
-use Prim.Native.Nat.{ℕ, _+_}
-use lib.Dec.{eqb, leb, ltb}
-use Rattle.calendar.specs.declared.Years.{Years}
-use Rattle.meaning.specs.Filing.{Site}
-use Rattle.meaning.specs.Refusals.{isTooSoon}
-use Rattle.meaning.specs.Closing.{allWinterDates, allDates}
-use Rattle.meaning.specs.Record.{isWithin, siteFits}
-use Rattle.ranges.specs.declared.Tally.{Tally}
-use Rattle.ranges.specs.declared.Tally.the-variants.{ProfileDates, DailyDates, Breaks, Rates}
-
--- a number of S within its range; until S is taken it may be 0 as well
-unfoldable pub givenFits : Bool → ℕ → ℕ → ℕ → Bool
-givenFits taken a b n = (not taken && eqb n 0) || isWithin a b n
-
--- what S gave is in its ranges, and AL and filière do not meet 9
-unfoldable pub siteStands : Bool → Site → Bool
-siteStands taken t = siteFits taken t && not (isTooSoon (t .al) (t .filiere))
-
--- none, or 10 to 1000 thousandths
-unfoldable pub rateFits : ℕ → Bool
-rateFits n = eqb n 0 || isWithin 10 1000 n
-
--- a year's number in a tally
-unfoldable pub yearNumberFits : Tally → ℕ → ℕ → Bool
-yearNumberFits ProfileDates y n = leb n (allWinterDates y)
-yearNumberFits DailyDates y n = leb n (allDates y)
-yearNumberFits Breaks y n = leb n 1
-yearNumberFits Rates y n = rateFits n
-
--- the number at a place of a tally: 0 where the file does not have its year
-unfoldable pub placeNumberFits : Years → Tally → ℕ → ℕ → Bool
-placeNumberFits span what k n = cond (ltb k (span .count)) (yearNumberFits what (span .first + k) n) (eqb n 0)
+-- 1, field by field: the range of a number of S as `site_ranges` has it, and of a year's number in each tally as `year_ranges` has it.
+unfoldable pub use Rattle.site_ranges.specs.Ranges.{givenFits, siteStands}
+unfoldable pub use Rattle.year_ranges.specs.Ranges.{rateFits, yearNumberFits, placeNumberFits}

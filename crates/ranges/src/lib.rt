@@ -1,11 +1,10 @@
 // 1 on the fields of a record: whether each number is within its field's range.
 mod last_dates; // the last date or year of each tag
-mod site_range; // AL, filière, meter and PS
 mod by_year; // the numbers by year
 
 pub use by_year::tallies_fit;
 pub use last_dates::lasts_fit;
-pub use site_range::site_fits;
+pub use site_ranges::site_fits;
 
 // The last date of C, X, D, P as 366 times the year and the date place, the last year of B, R; 0 for none.
 pub struct Lasts {
@@ -23,11 +22,4 @@ pub struct Tallies {
     pub daily_dates: [u64; 12],
     pub breaks: [u64; 10],
     pub rates: [u64; 10],
-}
-
-enum Tally {
-    ProfileDates,
-    DailyDates,
-    Breaks,
-    Rates,
 }

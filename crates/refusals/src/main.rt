@@ -54,6 +54,18 @@ fn answered(record: Record, answer: Answer) -> Stepped {
             number: number,
             count: count,
         },
+        // no close is called
+        Answer::Reports {
+            al,
+            filiere,
+            level,
+            points,
+        } => Stepped {
+            record: record,
+            say: 0,
+            number: 0,
+            count: 0,
+        },
     }
 }
 

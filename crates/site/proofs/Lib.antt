@@ -1,10 +1,6 @@
 pub mod Given
 pub mod Opens
-pub mod Lines
-pub mod Taken
-pub mod Judging
-pub mod Codes
-pub mod Changed
-pub mod Dated
-pub mod Dispatch
 pub mod Same
+pub mod Steps
+pub mod Ends
+pub mod Answers

@@ -12,7 +12,7 @@ use Rattle.meaning.specs.Calls.{Out, out, took, refused, leaves, openingOf}
 use Rattle.site.specs.Views.{world}
 use Rattle.site.specs.Sizes.{lengthsFit}
 
-eight : (a b c d e f g h : Bool) → T (a && (b && (c && (d && (e && (f && (g && h))))))) → T a × T b × T c × T d × T e × T f × T g × T h
+pub eight : (a b c d e f g h : Bool) → T (a && (b && (c && (d && (e && (f && (g && h))))))) → T a × T b × T c × T d × T e × T f × T g × T h
 eight false b c d e f g h t = absurd t
 eight true false c d e f g h t = absurd t
 eight true true false d e f g h t = absurd t

@@ -19,27 +19,29 @@ pub same-record : (r q : Record) → view r ≡ view q → r ≡ q
 same-record r q e = λ i. record {
   state = ap (λ (s : Rec). s .state) e i;
   count = ap (λ (s : Rec). s .count) e i;
-  last = ap (λ (s : Rec). s .last) e i;
-  site = record {
-    al = ap (λ (s : Rec). s .site .al) e i;
-    filiere = ap (λ (s : Rec). s .site .filiere) e i;
-    meter = same-meter (r .site .meter) (q .site .meter) (ap (λ (s : Rec). s .site .meter) e) i;
-    ps = ap (λ (s : Rec). s .site .ps) e i;
-  };
-  readings = ap (λ (s : Rec). s .readings) e i;
-  «last_index» = ap (λ (s : Rec). s .lastIndex) e i;
-  lasts = record {
-    c = ap (λ (s : Rec). s .lasts .c) e i;
-    x = ap (λ (s : Rec). s .lasts .x) e i;
-    d = ap (λ (s : Rec). s .lasts .d) e i;
-    p = ap (λ (s : Rec). s .lasts .p) e i;
-    b = ap (λ (s : Rec). s .lasts .b) e i;
-    r = ap (λ (s : Rec). s .lasts .r) e i;
-  };
-  tallies = record {
-    «profile_dates» = ap (λ (s : Rec). s .tallies .profileDates) e i;
-    «daily_dates» = ap (λ (s : Rec). s .tallies .dailyDates) e i;
-    breaks = ap (λ (s : Rec). s .tallies .breaks) e i;
-    rates = ap (λ (s : Rec). s .tallies .rates) e i;
+  progress = record {
+    last = ap (λ (s : Rec). s .last) e i;
+    site = record {
+      al = ap (λ (s : Rec). s .site .al) e i;
+      filiere = ap (λ (s : Rec). s .site .filiere) e i;
+      meter = same-meter (r .progress .site .meter) (q .progress .site .meter) (ap (λ (s : Rec). s .site .meter) e) i;
+      ps = ap (λ (s : Rec). s .site .ps) e i;
+    };
+    readings = ap (λ (s : Rec). s .readings) e i;
+    «last_index» = ap (λ (s : Rec). s .lastIndex) e i;
+    lasts = record {
+      c = ap (λ (s : Rec). s .lasts .c) e i;
+      x = ap (λ (s : Rec). s .lasts .x) e i;
+      d = ap (λ (s : Rec). s .lasts .d) e i;
+      p = ap (λ (s : Rec). s .lasts .p) e i;
+      b = ap (λ (s : Rec). s .lasts .b) e i;
+      r = ap (λ (s : Rec). s .lasts .r) e i;
+    };
+    tallies = record {
+      «profile_dates» = ap (λ (s : Rec). s .tallies .profileDates) e i;
+      «daily_dates» = ap (λ (s : Rec). s .tallies .dailyDates) e i;
+      breaks = ap (λ (s : Rec). s .tallies .breaks) e i;
+      rates = ap (λ (s : Rec). s .tallies .rates) e i;
+    };
   };
 }

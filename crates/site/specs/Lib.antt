@@ -1,3 +1,4 @@
 pub mod Views
 pub mod Sizes
-pub mod Lines
+pub mod Columns
+pub mod Closes

@@ -6,12 +6,12 @@ use ranges::site_fits;
 use ranges::tallies_fit;
 ghost use mathlib.Core.Path.{_≡_};
 ghost use mathlib.Core.Bool.{cond};
-ghost use Rattle.meaning.specs.Record.{siteOfRec, recFits};
+ghost use Rattle.meaning.specs.Record.{recFits};
 ghost use Rattle.site.specs.Views.{view};
 ghost use Rattle.site.specs.Sizes.{lengthsFit};
 
 // A number that S gave; 0 until S is taken.
-fn given(taken: bool, n: u64) -> u64
+pub fn given(taken: bool, n: u64) -> u64
     ensures { λ r. ⌜ r ≡ cond taken n 0 ⌝ }
 {
     if taken {
@@ -42,38 +42,29 @@ pub fn sizes_fit(
 }
 
 impl Record {
-    // The AL that S gave.
-    pub fn al(self) -> u64
-        ensures { λ r. ⌜ r ≡ siteOfRec (view self) .al ⌝ }
-    {
-        let site = self.site;
-        given(self.last != 0, site.al)
-    }
-
-    // The filière that S gave.
-    pub fn filiere(self) -> u64
-        ensures { λ r. ⌜ r ≡ siteOfRec (view self) .filiere ⌝ }
-    {
-        let site = self.site;
-        given(self.last != 0, site.filiere)
-    }
-
     // Every number is within its field's range, and AL and filière do not meet 9.
     pub fn fits(self) -> bool
         ensures { λ r. ⌜ r ≡ recFits (view self) ⌝ }
     {
-        let al = self.al();
-        let filiere = self.filiere();
-        let site = self.site;
-        let lasts = self.lasts;
-        let tallies = self.tallies;
+        let last = self.progress.last;
+        let site = self.progress.site;
+        let lasts = self.progress.lasts;
+        let tallies = self.progress.tallies;
+        let al = given(last != 0, site.al);
+        let filiere = given(last != 0, site.filiere);
         let years = both(
             lasts_fit(al, filiere, lasts),
             tallies_fit(al, filiere, tallies),
         );
-        let readings = both(self.readings <= 600, self.last_index <= 1_000_000_000_000);
-        let given = both(site_fits(self.last != 0, site), both(readings, years));
-        let counts = both(self.state <= 3, both(self.count <= 9999, self.last <= 8));
+        let readings = both(
+            self.progress.readings <= 600,
+            self.progress.last_index <= 1_000_000_000_000,
+        );
+        let given = both(site_fits(last != 0, site), both(readings, years));
+        let counts = both(
+            self.state <= 3,
+            both(self.count <= 9999, last <= 8),
+        );
         both(counts, given)
     }
 }

@@ -1,39 +1,48 @@
-// The site's record: opening it, and taking the lines of its file.
+// The site's record: opening it, taking the lines of its file, and closing it.
 //
 // Each call takes the record and hands it back, with the lent blocks as further parameters. What it promises is one equation: answer, record and all
 // lent lists are what the definitions of document 01 say of the record and the lists that came.
 mod checks; // 1: sizes and ranges
-mod by_tag; // one line of a file
+mod ending; // the close of a file
+mod lines; // one line of a file
 mod opening; // a fresh record and fresh blocks
-mod plain; // S, B, R and E
-mod refusing; // a refusal by 2 to 12
-mod spans; // the years that S gave
-mod stored; // C, P, D and X
+mod telling; // what a call answers
 
-use intake::Site;
-use ranges::Lasts;
-use ranges::Tallies;
+use closing::Year;
+use taking::Progress;
 
 pub struct Record {
     // 0 never opened, 1 open, 2 refused, 3 closed
     pub state: u64,
     // lines taken so far
     pub count: u64,
-    // the rank of the last tag, 0 for none
-    pub last: u64,
-    pub site: Site,
-    pub readings: u64,
-    pub last_index: u64,
-    pub lasts: Lasts,
-    pub tallies: Tallies,
+    // what they gave
+    pub progress: Progress,
 }
 
 pub enum Answer {
     Took,
-    Refused { number: u64, count: u64 },
+    Refused {
+        number: u64,
+        count: u64,
+    },
+    // the level in W, and the points counted
+    Reports {
+        al: u64,
+        filiere: u64,
+        level: u64,
+        points: u64,
+    },
 }
 
 pub struct Opened {
     pub record: Record,
     pub answer: Answer,
+}
+
+// With the years of a report from the oldest on; all 0 past the last, and on a refusal.
+pub struct Closed {
+    pub record: Record,
+    pub answer: Answer,
+    pub years: [Year; 10],
 }

@@ -11,6 +11,7 @@ use intake::Meter;
 use intake::Site;
 use ranges::Lasts;
 use ranges::Tallies;
+use taking::Progress;
 ghost use mathlib.Core.Path.{_≡_};
 ghost use Rattle.meaning.specs.Record.{emptyRec, neverOpened};
 ghost use Rattle.meaning.specs.Calls.{openingOf};
@@ -49,15 +50,18 @@ fn empty(state: u64) -> Record
         breaks: none,
         rates: none,
     };
-    Record {
-        state,
-        count: 0,
+    let progress = Progress {
         last: 0,
         site,
         readings: 0,
         last_index: 0,
         lasts,
         tallies,
+    };
+    Record {
+        state,
+        count: 0,
+        progress,
     }
 }
 

@@ -1,6 +1,5 @@
-// The text of a file's lines: fields parted by tabs, and what a field holds: a number, a dash or a fixed text.
+// The text of a file's lines: fields parted by tabs, and what a field holds: a fixed text, or as `numbers` has it a number or a dash.
 mod fields;
-mod numbers;
 
 pub use fields::after;
 pub use fields::field;

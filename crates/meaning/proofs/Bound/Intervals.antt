@@ -1,13 +1,12 @@
 -- Where a close is not refused, the daily sums over the interval around a day of a valid index year's winter are not all 0.
 use mathlib.Core.Path.{_≡_, refl}
 use mathlib.Core.Bool.{Bool, true, false, not, _&&_, _||_}
-use mathlib.Core.List.{[], _∷_}
 use mathlib.Core.Option.{some, none}
 use Prim.Native.Nat.{ℕ, zero, suc, _-_, _*_, _<_}
 use native.Mathlib.Omega.{arith}
 use lib.Dec.{T, eqb, leb, ltb}
 use borrow.Author.Tests.{ltb-true, ltb-false}
-use Rattle.lists.specs.Lists.{any, all, Each, each-cons}
+use Rattle.lists.specs.Lists.{any, all}
 use Rattle.lists.proofs.Laws.{both-not, first-none, any-each, any-some, some-any}
 use Rattle.lists.proofs.Reflect.{of-and, of-eq, of-le, of-lt, of-all}
 use Rattle.lists.proofs.Sums.{In, each-in, some-in, in-range, in-kept, first-some}
@@ -19,16 +18,14 @@ use Rattle.calendar.proofs.Laws.{WinterPlaceHasDay, winter-place-day, no-winter
 use Rattle.meaning.specs.Filing.{Filing, axisOf, yearOf, historyList}
 use Rattle.meaning.specs.Validity.{Interval, intervals, daysOf, hasDay, totalOf, isWinterDay, overlapsWinter, winterDays, isCovered, isSound, indexValid}
 use Rattle.meaning.specs.Points.{positionAt, intervalAt}
-use Rattle.meaning.specs.Closing.{unended, partial, lacking, zeroTotal, tooHigh, lacks, lackOrder, closingRefusal, someWinterInterval}
+use Rattle.meaning.specs.Closing.{zeroTotal, lacks, lackOrder, closingRefusal, someWinterInterval}
+use Rattle.meaning.proofs.Passed.{each-head, each-tail}
 use Rattle.meaning.proofs.Bound.Years.{InHistory, in-history, axis-before}
 
 -- 17 does not hold
 no-zero-total : (F : Filing) → closingRefusal F ≡ none → T (not (lacks zeroTotal F))
 unfolding closingRefusal lackOrder
-no-zero-total F e = fourth (first-none (λ k. lacks k F) (unended ∷ partial ∷ lacking ∷ zeroTotal ∷ tooHigh ∷ []) e)
-  where
-    fourth : Each (λ k. T (not (lacks k F))) (unended ∷ partial ∷ lacking ∷ zeroTotal ∷ tooHigh ∷ []) → T (not (lacks zeroTotal F))
-    fourth (each-cons a (each-cons b (each-cons c (each-cons d r)))) = d
+no-zero-total F e = each-head (each-tail (each-tail (each-tail (first-none (λ k. lacks k F) lackOrder e))))
 
 -- so no interval that overlaps the winter of a valid index year has only daily sums of 0
 not-zero : (F : Filing) (y : ℕ) → InHistory F y → T (not (lacks zeroTotal F)) → T (indexValid F y) → (v : Interval) → In v (intervals F) → T (overlapsWinter F y v)

@@ -24,6 +24,7 @@ use Rattle.meaning.specs.Closing.{Lack, unended, partial, lacking, zeroT
 use Rattle.meaning.specs.Words.Dates.{Leap}
 use Rattle.meaning.specs.Words.Years.{Between, WinterDay, SomeYear}
 use Rattle.meaning.specs.Words.Close.{SomeAxisYear, Partial, SomeInterval, Touches, HighOrigin, High, CloseWords, earlierLack, ClosingWords}
+use Rattle.meaning.proofs.Passed.{each-head, each-tail}
 use Rattle.meaning.proofs.Pins.Dates.{date-words}
 use Rattle.meaning.proofs.Pins.Years.{valid-words, some-intervals, of-overlap}
 use Rattle.meaning.proofs.Pins.Cases.{some-history, some-axis}
@@ -163,11 +164,11 @@ lower k = of-all (λ j. ltb (lackNumber j) (lackNumber k)) (λ j. of-lt (lackNum
 
 each-lack : {Q : Lack → Type 0} → Each Q lackOrder → (k : Lack) → Q k
 unfolding lackOrder
-each-lack (each-cons q r) unended = q
-each-lack (each-cons _ (each-cons q r)) partial = q
-each-lack (each-cons _ (each-cons _ (each-cons q r))) lacking = q
-each-lack (each-cons _ (each-cons _ (each-cons _ (each-cons q r)))) zeroTotal = q
-each-lack (each-cons _ (each-cons _ (each-cons _ (each-cons _ (each-cons q r))))) tooHigh = q
+each-lack e unended = each-head e
+each-lack e partial = each-head (each-tail e)
+each-lack e lacking = each-head (each-tail (each-tail e))
+each-lack e zeroTotal = each-head (each-tail (each-tail (each-tail e)))
+each-lack e tooHigh = each-head (each-tail (each-tail (each-tail (each-tail e))))
 
 every-lack : {Q : Lack → Type 0} → ((k : Lack) → Q k) → (ks : List Lack) → Each Q ks
 every-lack f [] = each-nil

@@ -30,6 +30,7 @@ use Rattle.meaning.specs.Refusals.{Reason, illegible, unknown, misplaced
 use Rattle.meaning.specs.File.{siteIn, historyIn, stops, isIndexMeter, barredIn, reachedIn, lastIndexIn, beforeIn, refusalAt}
 use Rattle.meaning.specs.Words.Dates.{Winter, Date}
 use Rattle.meaning.specs.Words.Lines.{Strange, HasFields, after, IndexFile, Stopped, Misplaced, Number, Malformed, Off, OffHistory, OffAxis, Outside, Dated, OnlyWinter, Rising, Words, earlier, RefusalWords}
+use Rattle.meaning.proofs.Passed.{each-head, each-tail, each-reason}
 use Rattle.meaning.proofs.Pins.Dates.{date-words}
 use Rattle.meaning.proofs.Pins.Tables.{of-is}
 
@@ -83,15 +84,15 @@ abbrev tags : List Tag
 tags = S ∷ C ∷ X ∷ D ∷ P ∷ B ∷ R ∷ E ∷ other ∷ []
 
 each-tag : {Q : Tag → Type 0} → Each Q tags → (t : Tag) → Q t
-each-tag (each-cons q r) S = q
-each-tag (each-cons _ (each-cons q r)) C = q
-each-tag (each-cons _ (each-cons _ (each-cons q r))) X = q
-each-tag (each-cons _ (each-cons _ (each-cons _ (each-cons q r)))) D = q
-each-tag (each-cons _ (each-cons _ (each-cons _ (each-cons _ (each-cons q r))))) P = q
-each-tag (each-cons _ (each-cons _ (each-cons _ (each-cons _ (each-cons _ (each-cons q r)))))) B = q
-each-tag (each-cons _ (each-cons _ (each-cons _ (each-cons _ (each-cons _ (each-cons _ (each-cons q r))))))) R = q
-each-tag (each-cons _ (each-cons _ (each-cons _ (each-cons _ (each-cons _ (each-cons _ (each-cons _ (each-cons q r)))))))) E = q
-each-tag (each-cons _ (each-cons _ (each-cons _ (each-cons _ (each-cons _ (each-cons _ (each-cons _ (each-cons _ (each-cons q r))))))))) other = q
+each-tag e S = each-head e
+each-tag e C = each-head (each-tail e)
+each-tag e X = each-head (each-tail (each-tail e))
+each-tag e D = each-head (each-tail (each-tail (each-tail e)))
+each-tag e P = each-head (each-tail (each-tail (each-tail (each-tail e))))
+each-tag e B = each-head (each-tail (each-tail (each-tail (each-tail (each-tail e)))))
+each-tag e R = each-head (each-tail (each-tail (each-tail (each-tail (each-tail (each-tail e))))))
+each-tag e E = each-head (each-tail (each-tail (each-tail (each-tail (each-tail (each-tail (each-tail e)))))))
+each-tag e other = each-head (each-tail (each-tail (each-tail (each-tail (each-tail (each-tail (each-tail (each-tail e))))))))
 
 -- a later tag has a higher rank
 rank-test : Tag → Tag → Bool
@@ -405,21 +406,6 @@ lower-test miscounted = tt
 
 lower : (y : Reason) → Each (λ z. numberOf z < numberOf y) (earlier y)
 lower y = of-all (λ z. ltb (numberOf z) (numberOf y)) (λ z. of-lt (numberOf z) (numberOf y)) (earlier y) .0 (lower-test y)
-
--- what each of the order has, each reason has
-pub each-reason : {Q : Reason → Type 0} → Each Q order → (y : Reason) → Q y
-unfolding order
-each-reason (each-cons q r) illegible = q
-each-reason (each-cons _ (each-cons q r)) unknown = q
-each-reason (each-cons _ (each-cons _ (each-cons q r))) misplaced = q
-each-reason (each-cons _ (each-cons _ (each-cons _ (each-cons q r)))) malformed = q
-each-reason (each-cons _ (each-cons _ (each-cons _ (each-cons _ (each-cons q r))))) outside = q
-each-reason (each-cons _ (each-cons _ (each-cons _ (each-cons _ (each-cons _ (each-cons q r)))))) noDate = q
-each-reason (each-cons _ (each-cons _ (each-cons _ (each-cons _ (each-cons _ (each-cons _ (each-cons q r))))))) notLater = q
-each-reason (each-cons _ (each-cons _ (each-cons _ (each-cons _ (each-cons _ (each-cons _ (each-cons _ (each-cons q r)))))))) tooSoon = q
-each-reason (each-cons _ (each-cons _ (each-cons _ (each-cons _ (each-cons _ (each-cons _ (each-cons _ (each-cons _ (each-cons q r))))))))) falling = q
-each-reason (each-cons _ (each-cons _ (each-cons _ (each-cons _ (each-cons _ (each-cons _ (each-cons _ (each-cons _ (each-cons _ (each-cons q r)))))))))) tooMany = q
-each-reason (each-cons _ (each-cons _ (each-cons _ (each-cons _ (each-cons _ (each-cons _ (each-cons _ (each-cons _ (each-cons _ (each-cons _ (each-cons q r))))))))))) miscounted = q
 
 every-reason : {Q : Reason → Type 0} → ((y : Reason) → Q y) → (ys : List Reason) → Each Q ys
 every-reason f [] = each-nil

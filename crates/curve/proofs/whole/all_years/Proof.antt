@@ -6,30 +6,30 @@ use native.Mathlib.Omega.{arith}
 use lib.ListN.{length, getD, set}
 use Rattle.lists.proofs.Laws.{length-tab}
 use Rattle.points.specs.Cases.{meantCase, caseOfCode}
-use Rattle.curve.specs.Tallies.{plus}
-use Rattle.curve.specs.Places.{held, placesIn, placesOf, allPlacesIn, presentYears, fillingOf, curveEntryIn, curveIn}
+use Rattle.tallies.specs.Tallies.{plus}
+use Rattle.curve.specs.Places.{heldWith, placesIn, placesOf, allPlacesIn, presentYears, fillingOf, curveEntryIn, curveIn}
 use Rattle.curve.specs.Fits.{Entered, Filled}
 use Rattle.curve.proofs.Years.{year-length, YearsWalked, no-years, years-on, years-over, present-length}
 use Rattle.curve.proofs.whole.all_years.Statement.{statement}
 use Rattle.curve.proofs.whole.all_years.Tie as tie
 use Rattle.curve.proofs.whole.all_years.Reads as reads
 use Rattle.curve.proofs.whole.all_years.Lts as lts
-use Rattle.curve.proofs.tallies.plus.Reads as plus-reads
+use Rattle.tallies.proofs.plus.Reads as plus-reads
 use Rattle.curve.proofs.walk.year_places.Reads as year-places-reads
 use Rattle.points.proofs.cases.case_at.Reads as case-at-reads
 
 abbrev Inv-loop : tie.InvT-loop
-Inv-loop b near far slots energies totals curves indexes cas codes rates curve₀ n t₀ present₀ k₀ curve t present k =
-    (k ≤ n) × YearsWalked n (placesOf b (held near far slots energies totals curves indexes cas) codes rates) k t present curve
+Inv-loop b m near far slots energies totals codes rates curve₀ n t₀ present₀ k₀ curve t present k =
+    (k ≤ n) × YearsWalked n (placesOf b (heldWith near far slots energies totals m) codes rates) k t present curve
 
 abbrev μ-loop : tie.MeasureT-loop
-μ-loop b near far slots energies totals curves indexes cas codes rates curve₀ n t₀ present₀ k₀ curve t present k = n - k
+μ-loop b m near far slots energies totals codes rates curve₀ n t₀ present₀ k₀ curve t present k = n - k
 
 loop-holds : tie.Need-loop-holds Inv-loop μ-loop
 loop-holds c =
     let s = c .before .before .before in
     let a = s .args in
-    let l = held (a .near .now) (a .far .now) (a .slots .now) (a .energies .now) (a .totals .now) (a .curves .now) (a .indexes .now) (a .cas .now) in
+    let l = heldWith (a .near .now) (a .far .now) (a .slots .now) (a .energies .now) (a .totals .now) (a .m) in
     (omega arith, no-years (a .b .count) (placesOf (a .b) l (a .codes .now) (a .rates .now)) _ (a .curve .now) refl (s .pre .1))
 
 mul-case-at : tie.Need-mul-case-at Inv-loop μ-loop
@@ -43,11 +43,11 @@ element-copy-out-case-at c =
 case-at-requires : tie.Need-case-at-requires Inv-loop μ-loop
 case-at-requires c κs = search needs
 
-mul-year-places : tie.Need-mul-year-places Inv-loop μ-loop
-mul-year-places c = search needs
+mul-rate : tie.Need-mul-rate Inv-loop μ-loop
+mul-rate c = search needs
 
-element-copy-out-year-places : tie.Need-element-copy-out-year-places Inv-loop μ-loop
-element-copy-out-year-places c =
+element-copy-out-rate : tie.Need-element-copy-out-rate Inv-loop μ-loop
+element-copy-out-rate c =
     let s = c .before .before .before .before .before .before .before in
     omega (arith, c .before .before .loop-test .taken, s .pre .0 .0 .count)
 
@@ -65,7 +65,7 @@ array-write-present c =
     let b = c .before .before .before .before .before .before in
     let s = b .before .before .before .before in
     let a = s .args in
-    let l = held (a .near .now) (a .far .now) (a .slots .now) (a .energies .now) (a .totals .now) (a .curves .now) (a .indexes .now) (a .cas .now) in
+    let l = heldWith (a .near .now) (a .far .now) (a .slots .now) (a .energies .now) (a .totals .now) (a .m) in
     omega (
       arith,
       c .before .before .before .before .before .loop-test .taken,
@@ -94,10 +94,10 @@ loop-again c =
     let b = c .before .before .before .before .before .before .before in
     let s = b .before .before .before .before in
     let a = s .args in
-    let l = held (a .near .now) (a .far .now) (a .slots .now) (a .energies .now) (a .totals .now) (a .curves .now) (a .indexes .now) (a .cas .now) in
+    let l = heldWith (a .near .now) (a .far .now) (a .slots .now) (a .energies .now) (a .totals .now) (a .m) in
     let k = b .loop .k in
     let y = c .before .year-places in
-    let later = y .last .1 .1 .1 .1 .1 .1 .1 .1 .1 .1 .1 .1 .0 in
+    let later = y .last .1 .1 .1 .1 .1 .1 .1 .1 .0 in
     let t = c .before .before .before .before .before .before .loop-test .taken in
     let e = rw (c .before .before .before .before .case-at .ensures) at (y .ensures) in (
       omega arith,
@@ -112,7 +112,7 @@ returns c =
     let b = c .before in
     let s = b .before .before .before .before in
     let a = s .args in
-    let l = held (a .near .now) (a .far .now) (a .slots .now) (a .energies .now) (a .totals .now) (a .curves .now) (a .indexes .now) (a .cas .now) in
+    let l = heldWith (a .near .now) (a .far .now) (a .slots .now) (a .energies .now) (a .totals .now) (a .m) in
     let w = b .loop .inv .1 in
     let e : b .loop .k ≡ a .b .count = omega (arith, b .loop .inv .0, c .loop-test .left) in
     let t = years-over (a .b .count) (placesOf (a .b) l (a .codes .now) (a .rates .now)) (b .loop .k) (b .loop .t) (b .loop .present) (b .loop .curve) (c .loop-test .left) w in
@@ -134,8 +134,8 @@ all-years-spec =
     mul-case-at
     element-copy-out-case-at
     case-at-requires
-    mul-year-places
-    element-copy-out-year-places
+    mul-rate
+    element-copy-out-rate
     year-places-requires
     mul-present
     array-write-present

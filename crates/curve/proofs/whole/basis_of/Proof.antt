@@ -1,8 +1,8 @@
 use mathlib.Core.Path.{_≡_, refl, sym, ap, subst, _∙_}
 use Prim.Native.Nat.{ℕ}
 use native.Mathlib.Omega.{arith}
-use Rattle.points.specs.declared.Basis.{Basis}
-use Rattle.points.specs.Sources.{casSum, casFrom}
+use Rattle.donors.specs.declared.Basis.{Basis}
+use Rattle.years.specs.Years.{casSum, casFrom}
 use Rattle.points.specs.Fits.{BasisFits}
 use Rattle.curve.specs.Places.{basisOf}
 use Rattle.curve.specs.Fits.{BasisIs}
@@ -14,8 +14,8 @@ use Rattle.curve.proofs.whole.basis_of.Reads as reads
 use Rattle.curve.proofs.whole.basis_of.Lts as lts
 use Rattle.calendar.proofs.spans.history.Reads as history-reads
 use Rattle.note.proofs.coefficients.theta.Reads as theta-reads
-use Rattle.points.proofs.years.cas_from.Reads as cas-from-reads
-use Rattle.points.proofs.years.cas_sum.Reads as cas-sum-reads
+use Rattle.years.proofs.factors.cas_from.Reads as cas-from-reads
+use Rattle.years.proofs.factors.cas_sum.Reads as cas-sum-reads
 
 history-requires : tie.Need-history-requires
 history-requires c κs = search needs

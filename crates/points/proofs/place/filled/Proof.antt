@@ -9,24 +9,25 @@ use Rattle.meaning.specs.Blocks.{slotAt}
 use Rattle.points.specs.declared.Case.{Case}
 use Rattle.points.proofs.Case.{the-type}
 use Rattle.points.specs.declared.Case.the-variants.{M, T1, T2, T3, T4, P, I5, I6}
-use Rattle.points.specs.declared.Basis.{Basis}
+use Rattle.donors.specs.declared.Basis.{Basis}
 use Rattle.points.specs.Cases.{meantCase}
-use Rattle.points.specs.Sources.{Day, day, codeIn, readIn, profiledOn, curveGiven, indexGiven, curveDonorsIn, indexDonorsIn, defaultIn, sourceIn}
-use Rattle.points.specs.Fits.{isPoint, FilledIs}
-use Rattle.points.proofs.Gathered.{fit-more, rebuilt-filled}
+use Rattle.donors.specs.Given.{codeIn, readIn, profiledOn, curveGiven, indexGiven}
+use Rattle.points.specs.Sources.{Day, day, curveDonorsIn, indexDonorsIn, defaultIn, sourceIn}
+use Rattle.donors.specs.Fits.{isPoint, FilledIs}
+use Rattle.donors.proofs.Gathered.{fit-more, rebuilt-filled}
 use borrow.Author.Needs.{needs}
 use Rattle.points.proofs.place.filled.Statement.{statement}
 use Rattle.points.proofs.place.filled.Tie as tie
 use Rattle.points.proofs.place.filled.Reads as reads
 use Rattle.points.proofs.place.filled.Lts as lts
-use Rattle.points.proofs.own.by_default.Reads as by-default-reads
-use Rattle.points.proofs.own.code.Reads as code-reads
-use Rattle.points.proofs.own.measured.Reads as measured-reads
-use Rattle.points.proofs.own.profile.Reads as profile-reads
-use Rattle.points.proofs.own.profiled.Reads as profiled-reads
-use Rattle.points.proofs.rebuilding.from_curves.Reads as from-curves-reads
-use Rattle.points.proofs.rebuilding.from_indexes.Reads as from-indexes-reads
-use Rattle.points.proofs.rebuilding.rebuilt.Reads as rebuilt-reads
+use Rattle.donors.proofs.own.by_default.Reads as by-default-reads
+use Rattle.donors.proofs.own.code.Reads as code-reads
+use Rattle.donors.proofs.own.measured.Reads as measured-reads
+use Rattle.donors.proofs.own.profile.Reads as profile-reads
+use Rattle.donors.proofs.own.profiled.Reads as profiled-reads
+use Rattle.donors.proofs.rebuilding.from_curves.Reads as from-curves-reads
+use Rattle.donors.proofs.rebuilding.from_indexes.Reads as from-indexes-reads
+use Rattle.donors.proofs.rebuilding.rebuilt.Reads as rebuilt-reads
 
 -- ---- the cases that share a way, by the number of their variant
 no-case : {A : Type 0} {a b : ℕ} → (a ≡ b → ⊥) → {m n : ℕ} → (m ≡ n → ⊥) → (a ≡ b) ⊎ (m ≡ n) → A
@@ -81,7 +82,7 @@ measured-requires : tie.Need-measured-requires
 unfolding codeIn
 measured-requires c κs =
     let s = c .before .before .before .before .before .before .before in
-    rw (c .code .ensures) (s .pre .0 .1 .points (s .args .b .first + s .args .k) (slotAt (s .args .w) (s .args .h)))
+    rw (c .code .ensures) (s .pre .0 .1 .points (s .args .b .first + s .args .y .k) (slotAt (s .args .w) (s .args .h)))
 
 mul-profiled : tie.Need-mul-profiled
 mul-profiled c = search needs
@@ -101,7 +102,7 @@ element-copy-out-profiled-2 c = search needs
 profiled-requires : tie.Need-profiled-requires
 profiled-requires c κs =
     let s = c .before .before .before .before .before .before .before in
-    (s .pre .0 .1 .energies (s .args .k), c .before .profile .ensures .fits, s .pre .0 .1 .totals (s .args .k))
+    (s .pre .0 .1 .energies (s .args .y .k), c .before .profile .ensures .fits, s .pre .0 .1 .totals (s .args .y .k))
 
 enum-told-2 : tie.Need-enum-told-2
 enum-told-2 c = search needs
@@ -118,7 +119,7 @@ from-curves-requires c κs = search needs
 rebuilt-requires : tie.Need-rebuilt-requires
 rebuilt-requires c κs =
     let s = c .before .before .before .before .before .before .before in
-    (s .pre .0 .1 .cas .most (s .args .k), fit-more (s .args .b .count) 10 (c .from-curves .result) (s .pre .0 .0 .count) (c .from-curves .ensures .fit))
+    (s .pre .0 .1 .cas .most (s .args .y .k), fit-more (s .args .b .count) 10 (c .from-curves .result) (s .pre .0 .0 .count) (c .from-curves .ensures .fit))
 
 mul-rebuilt-2 : tie.Need-mul-rebuilt-2
 mul-rebuilt-2 c = search needs
@@ -132,7 +133,7 @@ from-indexes-requires c κs = search needs
 rebuilt-requires-2 : tie.Need-rebuilt-requires-2
 rebuilt-requires-2 c κs =
     let s = c .before .before .before .before .before .before in
-    (s .pre .0 .1 .cas .most (s .args .k), fit-more (s .args .b .count) 10 (c .from-indexes .result) (s .pre .0 .0 .count) (c .from-indexes .ensures .fit))
+    (s .pre .0 .1 .cas .most (s .args .y .k), fit-more (s .args .b .count) 10 (c .from-indexes .result) (s .pre .0 .0 .count) (c .from-indexes .ensures .fit))
 
 profile-requires-2 : tie.Need-profile-requires-2
 profile-requires-2 c κs = search needs
@@ -146,8 +147,7 @@ element-copy-out-by-default c = search needs
 by-default-requires : tie.Need-by-default-requires
 by-default-requires c κs =
     let s = c .before .before .before .before .before .before in
-    let b = s .pre .0 .0 in
-    (b .ps, b .theta, c .before .profile2 .ensures .fits, s .pre .0 .1 .cas .most (s .args .k), b .count, b .some-cas, b .most-cas)
+    (s .pre .0 .0, c .before .profile2 .ensures .fits, s .pre .0 .1 .cas .most (s .args .y .k))
 
 returns : tie.Need-returns
 unfolding sourceIn readIn
@@ -159,7 +159,7 @@ returns-2 c =
     let s = c .before .before .before .before .before .before .before .before in
     let a = s .args in
     subst (λ (x : Source). FilledIs x (c .profiled .result))
-    (profiled-source (a .b) (day (a .near .now) (a .far .now) (a .slots .now) (a .energies .now) (a .totals .now) (a .givers .now) (a .curves .now) (a .cas .now)) (a .case) (a .k) (a .w) (a .h) (c .before .before .before .before .match .keys2))
+    (profiled-source (a .b) (day (a .near .now) (a .far .now) (a .slots .now) (a .energies .now) (a .totals .now) (a .givers .now) (a .curves .now) (a .cas .now)) (a .y .case) (a .y .k) (a .w) (a .h) (c .before .before .before .before .match .keys2))
     (rw (c .before .before .profile .ensures .is) at (c .profiled .ensures))
 
 returns-3 : tie.Need-returns-3
@@ -168,7 +168,7 @@ returns-3 c =
     let s = c .before .before .before .before .before .before .before .before in
     let a = s .args in
     rw (c .before .before .before .enum-told2 .given .1)
-    (rebuilt-filled (a .b .count) (getD (a .cas .now) (a .k) 0) (a .cas .now) (curveGiven (a .b .al) (a .b .first) (a .near .now) (a .far .now) (a .curves .now) (a .w) (a .h))
+    (rebuilt-filled (a .b .count) (getD (a .cas .now) (a .y .k) 0) (a .cas .now) (curveGiven (a .b .al) (a .b .first) (a .near .now) (a .far .now) (a .curves .now) (a .w) (a .h))
     (c .before .from-curves .result) (c .rebuilt .result) (s .pre .0 .1 .cas) (c .before .from-curves .ensures) (c .rebuilt .ensures))
 
 returns-4 : tie.Need-returns-4
@@ -177,8 +177,8 @@ returns-4 c =
     let s = c .before .before .before .before .before .before .before in
     let a = s .args in
     subst (λ (x : Source). FilledIs x (c .rebuilt2 .result))
-    (index-source (a .b) (day (a .near .now) (a .far .now) (a .slots .now) (a .energies .now) (a .totals .now) (a .givers .now) (a .curves .now) (a .cas .now)) (a .case) (a .k) (a .w) (a .h) (c .before .before .before .match .keys4))
-    (rebuilt-filled (a .b .count) (getD (a .cas .now) (a .k) 0) (a .cas .now) (indexGiven (a .slots .now) (a .energies .now) (a .totals .now) (a .givers .now) (a .w) (a .h))
+    (index-source (a .b) (day (a .near .now) (a .far .now) (a .slots .now) (a .energies .now) (a .totals .now) (a .givers .now) (a .curves .now) (a .cas .now)) (a .y .case) (a .y .k) (a .w) (a .h) (c .before .before .before .match .keys4))
+    (rebuilt-filled (a .b .count) (getD (a .cas .now) (a .y .k) 0) (a .cas .now) (indexGiven (a .slots .now) (a .energies .now) (a .totals .now) (a .givers .now) (a .w) (a .h))
     (c .before .from-indexes .result) (c .rebuilt2 .result) (s .pre .0 .1 .cas) (c .before .from-indexes .ensures) (c .rebuilt2 .ensures))
 
 returns-5 : tie.Need-returns-5
@@ -187,7 +187,7 @@ returns-5 c =
     let s = c .before .before .before .before .before .before .before in
     let a = s .args in
     subst (λ (x : Source). FilledIs x (c .by-default .result))
-    (default-source (a .b) (day (a .near .now) (a .far .now) (a .slots .now) (a .energies .now) (a .totals .now) (a .givers .now) (a .curves .now) (a .cas .now)) (a .case) (a .k) (a .w) (a .h) (c .before .before .before .match .keys5))
+    (default-source (a .b) (day (a .near .now) (a .far .now) (a .slots .now) (a .energies .now) (a .totals .now) (a .givers .now) (a .curves .now) (a .cas .now)) (a .y .case) (a .y .k) (a .w) (a .h) (c .before .before .before .match .keys5))
     (rw (c .before .before .profile2 .ensures .is) at (c .by-default .ensures))
 
 pub filled-spec : {M : Type 1} → statement M

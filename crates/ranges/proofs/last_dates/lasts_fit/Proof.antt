@@ -1,5 +1,7 @@
+use mathlib.Core.Path.{_∙_}
 use borrow.Author.Needs.{needs}
 use Rattle.meaning.specs.Record.{lastsFit}
+use Rattle.site_ranges.proofs.Given.{and-same}
 use Rattle.ranges.proofs.last_dates.lasts_fit.Statement.{statement}
 use Rattle.ranges.proofs.last_dates.lasts_fit.Tie as tie
 
@@ -44,7 +46,19 @@ both-requires-5 c κs = search needs
 
 returns : tie.Need-returns
 unfolding lastsFit
-returns c = cc
+returns c =
+    let b2 = c .before .before in
+    let b4 = b2 .before .before in
+    let b6 = b4 .before .before in
+    let b8 = b6 .before .before in
+    let b10 = b8 .before .before in
+    let b11 = b10 .before in
+    rw (← b11 .axis .ensures, ← b11 .before .history .ensures)
+    (c .both5 .ensures ∙ and-same (c .before .date-fits4 .ensures)
+    (b2 .both4 .ensures ∙ and-same (b2 .before .date-fits3 .ensures)
+    (b4 .both3 .ensures ∙ and-same (b4 .before .date-fits2 .ensures)
+    (b6 .both2 .ensures ∙ and-same (b6 .before .date-fits .ensures)
+    (b8 .both .ensures ∙ and-same (b10 .year-fits .ensures) (b8 .before .year-fits2 .ensures))))))
 
 pub lasts-fit-spec : {M : Type 1} → statement M
 lasts-fit-spec =

@@ -1,0 +1,7 @@
+pub mod Copying
+pub mod Held
+pub mod Stopped
+pub mod Shown
+pub mod Walked
+pub mod Years
+pub mod Calls

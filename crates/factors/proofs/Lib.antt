@@ -1,0 +1,4 @@
+pub mod Table
+pub mod Annual
+pub mod Factors
+pub mod History

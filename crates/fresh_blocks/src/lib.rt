@@ -1,0 +1,2 @@
+// Blocks as opening leaves them.
+pub mod fills; // a block filled with one value

@@ -1,0 +1,15 @@
+use borrow.Author.Needs.{needs}
+use Rattle.points.specs.Sources.{bit}
+use Rattle.marks.proofs.validity.mark.Statement.{statement}
+use Rattle.marks.proofs.validity.mark.Tie as tie
+
+returns : tie.Need-returns
+unfolding bit
+returns c = search needs
+
+returns-2 : tie.Need-returns-2
+unfolding bit
+returns-2 c = search needs
+
+pub mark-spec : {M : Type 1} → statement M
+mark-spec = tie.close (tie.spec returns returns-2)

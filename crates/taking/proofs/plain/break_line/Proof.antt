@@ -1,0 +1,63 @@
+use borrow.Author.Needs.{needs}
+use mathlib.Core.Path.{_∙_}
+use native.Mathlib.Omega.{arith}
+use Rattle.taking.specs.Views.{openRec}
+use Rattle.taking.specs.Steps.{noBlock}
+use Rattle.taking.proofs.Steps.{answered, step-refused}
+use Rattle.taking.proofs.Rows.{Row}
+use Rattle.taking.proofs.Taken.{took-B}
+use Rattle.taking.proofs.Judging.{break-number, break-none, break-year, break-history, break-place}
+use Rattle.taking.proofs.plain.break_line.Statement.{statement}
+use Rattle.taking.proofs.plain.break_line.Tie as tie
+
+judge-break-requires : tie.Need-judge-break-requires
+judge-break-requires c κs = search needs
+
+answer-requires : tie.Need-answer-requires
+answer-requires c κs = search needs
+
+returns : tie.Need-returns
+returns c =
+    let b2 = c .before .before in
+    let a = c .before .before .before .before .before .before in
+    λ n. let s = openRec n (a .args .progress) in
+    let w = noBlock in
+    answered n w (c .answer .result) _ _ (c .answer .ensures)
+    ∙ step-refused s (a .args .line .now) w _ (break-number s (a .args .line .now) (a .pre) _ (b2 .judge-break .ensures)) (c .before .if1 .taken)
+
+history-requires : tie.Need-history-requires
+history-requires c κs = search needs
+
+-- where the year stands
+row : (c : tie.After-history) → Row (c .history .result .first) (c .before .before .judge-break .result .year) 10
+row c =
+    let b2 = c .before .before in
+    let a = c .before .before .before .before .before .before in
+    break-place (openRec 0 (a .args .progress)) (a .args .line .now) (a .pre) _ (b2 .judge-break .ensures) (c .before .if1 .left) (c .history .result) (c .history .ensures)
+
+sub-i : tie.Need-sub-i
+sub-i c = row (c .before) .from
+
+mul-tallies : tie.Need-mul-tallies
+mul-tallies c = omega (arith, row (c .before .before) .below)
+
+element-write-tallies : tie.Need-element-write-tallies
+element-write-tallies c = omega (arith, row (c .before .before) .below)
+
+answer-requires-2 : tie.Need-answer-requires-2
+answer-requires-2 c κs = search needs
+
+returns-2 : tie.Need-returns-2
+returns-2 c =
+    let b3 = c .before .before .before in
+    let a = c .before .before .before .before .before .before .before .before .before in
+    let l = a .args .line .now in
+    let k = a .pre in
+    let e = c .before .before .before .before .before .judge-break .ensures in
+    let z = c .before .before .before .before .if1 .left in
+    λ n. let s = openRec n (a .args .progress) in
+    answered n noBlock (c .answer2 .result) _ _ (c .answer2 .ensures)
+    ∙ took-B s l (break-none s l k _ e z) (k .tag) (b3 .history .result) _ (b3 .history .ensures ∙ break-history s l k _ e z) (break-year s l k _ e z)
+
+pub break-line-spec : {M : Type 1} → statement M
+break-line-spec = tie.close (tie.spec judge-break-requires answer-requires returns history-requires sub-i mul-tallies element-write-tallies answer-requires-2 returns-2)

@@ -1,0 +1,40 @@
+use borrow.Author.Needs.{needs}
+use mathlib.Core.Path.{_∙_}
+use Rattle.taking.specs.Views.{openRec}
+use Rattle.taking.specs.Steps.{noBlock}
+use Rattle.taking.proofs.Steps.{answered, step-refused}
+use Rattle.taking.proofs.Taken.{took-S}
+use Rattle.taking.proofs.Judging.{site-number, site-none, site-site}
+use Rattle.taking.proofs.plain.site_line.Statement.{statement}
+use Rattle.taking.proofs.plain.site_line.Tie as tie
+
+judge-site-requires : tie.Need-judge-site-requires
+judge-site-requires c κs = search needs
+
+answer-requires : tie.Need-answer-requires
+answer-requires c κs = search needs
+
+returns : tie.Need-returns
+returns c =
+    let b2 = c .before .before in
+    let a = c .before .before .before .before in
+    λ n. let s = openRec n (a .args .progress) in
+    let w = noBlock in
+    answered n w (c .answer .result) _ _ (c .answer .ensures)
+    ∙ step-refused s (a .args .line .now) w _ (site-number s (a .args .line .now) (a .pre) _ (b2 .judge-site .ensures)) (c .before .if1 .taken)
+
+answer-requires-2 : tie.Need-answer-requires-2
+answer-requires-2 c κs = search needs
+
+returns-2 : tie.Need-returns-2
+returns-2 c =
+    let a = c .before .before .before .before .before in
+    let l = a .args .line .now in
+    let e = c .before .before .before .judge-site .ensures in
+    let z = c .before .before .if1 .left in
+    λ n. let s = openRec n (a .args .progress) in
+    answered n noBlock (c .answer2 .result) _ _ (c .answer2 .ensures)
+    ∙ took-S s l (site-none s l (a .pre) _ e z) (a .pre .tag) _ (site-site s l (a .pre) _ e z)
+
+pub site-line-spec : {M : Type 1} → statement M
+site-line-spec = tie.close (tie.spec judge-site-requires answer-requires returns answer-requires-2 returns-2)

@@ -1,0 +1,44 @@
+use borrow.Author.Needs.{needs}
+use mathlib.Core.Path.{_∙_}
+use native.Mathlib.Omega.{arith}
+use Rattle.taking.specs.Views.{openRec}
+use Rattle.taking.specs.Steps.{noBlock}
+use Rattle.taking.proofs.Steps.{answered, step-refused}
+use Rattle.taking.proofs.Changed.{reading-place, took-X}
+use Rattle.taking.proofs.Dated.{reading-number, reading-none, reading-say}
+use Rattle.taking.proofs.reading.reading_line.Statement.{statement}
+use Rattle.taking.proofs.reading.reading_line.Tie as tie
+
+judge-reading-requires : tie.Need-judge-reading-requires
+judge-reading-requires c κs = search needs
+
+answer-requires : tie.Need-answer-requires
+answer-requires c κs = search needs
+
+returns : tie.Need-returns
+returns c =
+    let b2 = c .before .before in
+    let a = c .before .before .before .before .before .before in
+    λ n. let s = openRec n (a .args .progress) in
+    let w = noBlock in
+    answered n w (c .answer .result) _ _ (c .answer .ensures)
+    ∙ step-refused s (a .args .line .now) w _ (reading-number s (a .args .line .now) (a .pre) _ (b2 .judge-reading .ensures)) (c .before .if1 .taken)
+
+add-progress : tie.Need-add-progress
+add-progress c =
+    let a = c .before .before .before .before .before .before in
+    let l = a .args .line .now in
+    let s = openRec 0 (a .args .progress) in
+    omega (arith, reading-place s l (reading-none s l (a .pre) _ (c .before .before .judge-reading .ensures) (c .before .if1 .left)) (a .pre .tag) .1)
+
+returns-2 : tie.Need-returns-2
+returns-2 c =
+    let a = c .before .before .before .before .before .before in
+    let l = a .args .line .now in
+    let e = c .before .before .judge-reading .ensures in
+    let z = c .before .if1 .left in
+    λ n. let s = openRec n (a .args .progress) in
+    took-X s l (reading-none s l (a .pre) _ e z) (a .pre .tag) _ _ _ _ (reading-say s l (a .pre) _ e z)
+
+pub reading-line-spec : {M : Type 1} → statement M
+reading-line-spec = tie.close (tie.spec judge-reading-requires answer-requires returns add-progress returns-2)

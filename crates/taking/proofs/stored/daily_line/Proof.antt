@@ -1,0 +1,88 @@
+use mathlib.Core.Path.{_∙_}
+use native.Mathlib.Omega.{arith}
+use borrow.Author.Needs.{needs}
+use Prim.Native.Nat.{_-_}
+use Rattle.taking.specs.Views.{openRec}
+use Rattle.taking.specs.Steps.{dailyBlock}
+use Rattle.taking.proofs.Steps.{answered, step-refused}
+use Rattle.taking.proofs.Rows.{Row}
+use Rattle.taking.proofs.Changed.{daily-place, daily-axis, took-D}
+use Rattle.taking.proofs.Dated.{daily-number, daily-none, daily-say, daily-year-place}
+use Rattle.taking.proofs.stored.daily_line.Statement.{statement}
+use Rattle.taking.proofs.stored.daily_line.Tie as tie
+
+judge-daily-requires : tie.Need-judge-daily-requires
+judge-daily-requires c κs = search needs
+
+answer-requires : tie.Need-answer-requires
+answer-requires c κs = search needs
+
+returns : tie.Need-returns
+returns c =
+    let b2 = c .before .before in
+    let a = c .before .before .before .before .before .before .before in
+    λ n. let s = openRec n (a .args .progress) in
+    let w = dailyBlock (a .args .daily .now) in
+    answered n w (c .answer .result) _ _ (c .answer .ensures)
+    ∙ step-refused s (a .args .line .now) w _ (daily-number s (a .args .line .now) (a .pre .0) _ (b2 .judge-daily .ensures)) (c .before .if1 .taken)
+
+axis-requires : tie.Need-axis-requires
+axis-requires c κs = search needs
+
+-- where the year stands
+row : (c : tie.After-axis) → Row (c .axis .result .first) (c .before .before .judge-daily .result .year) 12
+row c =
+    let a = c .before .before .before .before .before .before .before in
+    daily-year-place (openRec 0 (a .args .progress)) (a .args .line .now) (a .pre .0) _ (c .before .before .judge-daily .ensures) (c .before .if1 .left) (c .axis .result) (c .axis .ensures)
+
+sub-i : tie.Need-sub-i
+sub-i c = row (c .before) .from
+
+put-sum-requires : tie.Need-put-sum-requires
+put-sum-requires c κs =
+    let a = c .before .before .before .before .before .before .before .before .before in
+    let l = a .args .line .now in
+    let s = openRec 0 (a .args .progress) in
+    let k = a .pre .0 in
+    let e = c .before .before .before .before .judge-daily .ensures in
+    let z = c .before .before .before .if1 .left in
+    let t = daily-say s l k _ e z in
+    let p = daily-place s l (daily-none s l k _ e z) (k .tag) in
+    (rw (t .1, a .pre .2) (p .0), rw (t .2) (p .1))
+
+mul-dates : tie.Need-mul-dates
+mul-dates c = omega (arith, row (c .before .before .before .before .before .before) .below)
+
+element-copy-out-dates : tie.Need-element-copy-out-dates
+element-copy-out-dates c = omega (arith, row (c .before .before .before .before .before .before) .below)
+
+add-tallies : tie.Need-add-tallies
+add-tallies c = let b = c .before .before .before .before .before .before .before in omega (arith, c .before .before .before .before .before .before .before .before .before .before .before .before .before .before .pre .1 (b .before .before .judge-daily .result .year - b .axis .result .first))
+
+mul-tallies : tie.Need-mul-tallies
+mul-tallies c = omega (arith, row (c .before .before .before .before .before .before .before) .below)
+
+element-write-tallies : tie.Need-element-write-tallies
+element-write-tallies c = omega (arith, row (c .before .before .before .before .before .before .before) .below)
+
+answer-requires-2 : tie.Need-answer-requires-2
+answer-requires-2 c κs = search needs
+
+same-length : tie.Need-same-length
+same-length c = let p = c .before .before .before .before .before .put-sum in search needs
+
+returns-2 : tie.Need-returns-2
+returns-2 c =
+    let h = c .before .before .before .before .before .before .before .before .axis in
+    let a = c .before .before .before .before .before .before .before .before .before .before .before .before .before .before .before in
+    let l = a .args .line .now in
+    let k = a .pre .0 in
+    let e = c .before .before .before .before .before .before .before .before .before .before .judge-daily .ensures in
+    let z = c .before .before .before .before .before .before .before .before .before .if1 .left in
+    λ n. let s = openRec n (a .args .progress) in
+    let f = daily-none s l k _ e z in
+    answered n _ (c .answer2 .result) _ _ (c .answer2 .ensures)
+    ∙ took-D s l f (k .tag) (a .args .daily .now) _ (h .result) _ _ _ _ (daily-say s l k _ e z) (h .ensures ∙ daily-axis s l f (k .tag)) (c .before .before .before .before .before .put-sum .ensures)
+
+pub daily-line-spec : {M : Type 1} → statement M
+daily-line-spec = tie.close (tie.spec judge-daily-requires answer-requires returns axis-requires sub-i put-sum-requires mul-dates element-copy-out-dates add-tallies mul-tallies element-write-tallies answer-requires-2 same-length returns-2)

@@ -1,0 +1,49 @@
+// One line of a file.
+use crate::Progress;
+use crate::Step;
+use crate::answers::answer;
+use crate::plain::break_line;
+use crate::plain::end_line;
+use crate::plain::rate_line;
+use crate::plain::site_line;
+use crate::reading::reading_line;
+use crate::stored::daily_line;
+use crate::stored::points_line;
+use crate::stored::profiles_line;
+use intake::is_illegible;
+use intake::known_tag;
+ghost use mathlib.Core.Path.{_≡_};
+ghost use mathlib.Core.Bool.{true};
+ghost use Rattle.meaning.specs.Record.{recFits};
+ghost use Rattle.taking.specs.Views.{openRec, stepView};
+ghost use Rattle.taking.specs.Steps.{stepOf, lineBlocks, LineSizes};
+
+// 2 and 3, then by tag. Each tag is lent the blocks that it writes, and no other.
+pub fn take_line(
+    progress: Progress,
+    count: u64,
+    line: &[u8],
+    near: &mut [u32],
+    far: &mut [u32],
+    slots: &mut [u16],
+    daily: &mut [u32],
+) -> Step
+    requires { ⌜ (recFits (openRec count progress) ≡ true) × LineSizes (lineBlocks (now near) (now far) (now slots) (now daily)) ⌝ }
+    ensures { λ r. ⌜ stepView count r (lineBlocks (now (near .exit)) (now (far .exit)) (now (slots .exit)) (now (daily .exit))) ≡ stepOf (openRec count progress) (now (line .entry)) (lineBlocks (now (near .entry)) (now (far .entry)) (now (slots .entry)) (now (daily .entry))) ⌝ }
+{
+    if is_illegible(line) {
+        return answer(2, progress);
+    }
+    let tag = known_tag(line);
+    match tag {
+        1 => site_line(progress, line),
+        2 => points_line(progress, line, near, far),
+        3 => reading_line(progress, line),
+        4 => daily_line(progress, line, daily),
+        5 => profiles_line(progress, line, slots),
+        6 => break_line(progress, line),
+        7 => rate_line(progress, line),
+        8 => end_line(progress, count, line),
+        _ => answer(3, progress),
+    }
+}

@@ -1,0 +1,92 @@
+// Lines that change the progress alone: S, B, R and E.
+use crate::Progress;
+use crate::Step;
+use crate::answers::answer;
+use calendar::spans::history;
+use judge::judge_break;
+use judge::judge_end;
+use judge::judge_rate;
+use judge::judge_site;
+ghost use mathlib.Core.Path.{_≡_};
+ghost use Rattle.meaning.specs.Line.{S, B, R, E};
+ghost use Rattle.judge.specs.Before.{Known};
+ghost use Rattle.taking.specs.Views.{openRec, stepView, StepsTo};
+ghost use Rattle.taking.specs.Steps.{stepOf, noBlock};
+
+// S: what it says of the site is kept.
+pub fn site_line(mut progress: Progress, line: &[u8]) -> Step
+    requires { ⌜ Known S (now line) ⌝ }
+    ensures { λ r. ⌜ StepsTo progress (now (line .entry)) noBlock r noBlock ⌝ }
+{
+    let judged = judge_site(line, progress.last);
+    let number = judged.number;
+    if number != 0 {
+        return answer(number, progress);
+    }
+    let site = judged.site;
+    progress.site = site;
+    progress.last = 1;
+    answer(0, progress)
+}
+
+// B: a break of its year.
+pub fn break_line(mut progress: Progress, line: &[u8]) -> Step
+    requires { ⌜ Known B (now line) ⌝ }
+    ensures { λ r. ⌜ StepsTo progress (now (line .entry)) noBlock r noBlock ⌝ }
+{
+    let site = progress.site;
+    let mut lasts = progress.lasts;
+    let judged = judge_break(line, progress.last, site.al, site.filiere, lasts.b);
+    let number = judged.number;
+    if number != 0 {
+        return answer(number, progress);
+    }
+    let years = history(site.al, site.filiere);
+    let year = judged.year;
+    let i = (year - years.first) as usize;
+    let mut tallies = progress.tallies;
+    tallies.breaks[i] = 1;
+    lasts.b = year;
+    progress.tallies = tallies;
+    progress.lasts = lasts;
+    progress.last = 6;
+    answer(0, progress)
+}
+
+// R: the rate of its year.
+pub fn rate_line(mut progress: Progress, line: &[u8]) -> Step
+    requires { ⌜ Known R (now line) ⌝ }
+    ensures { λ r. ⌜ StepsTo progress (now (line .entry)) noBlock r noBlock ⌝ }
+{
+    let site = progress.site;
+    let mut lasts = progress.lasts;
+    let judged = judge_rate(line, progress.last, site.al, site.filiere, lasts.r);
+    let number = judged.number;
+    if number != 0 {
+        return answer(number, progress);
+    }
+    let years = history(site.al, site.filiere);
+    let year = judged.year;
+    let i = (year - years.first) as usize;
+    let mut tallies = progress.tallies;
+    tallies.rates[i] = judged.rate;
+    lasts.r = year;
+    progress.tallies = tallies;
+    progress.lasts = lasts;
+    progress.last = 7;
+    answer(0, progress)
+}
+
+// E: no line may follow.
+pub fn end_line(mut progress: Progress, count: u64, line: &[u8]) -> Step
+    requires { ⌜ Known E (now line) ⌝ }
+    ensures { λ r. ⌜ stepView count r noBlock ≡ stepOf (openRec count progress) (now (line .entry)) noBlock ⌝ }
+{
+    let judged = judge_end(line, progress.last, count);
+    let number = judged.number;
+    if number != 0 {
+        return answer(number, progress);
+    }
+    progress.last = 8;
+    answer(0, progress)
+}

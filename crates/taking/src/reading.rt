@@ -1,0 +1,44 @@
+// X: one reading more, which the caller stores.
+use crate::Progress;
+use crate::Step;
+use crate::answers::answer;
+use dated::judge_reading;
+ghost use Rattle.meaning.specs.Line.{X};
+ghost use Rattle.judge.specs.Before.{Known};
+ghost use Rattle.taking.specs.Views.{StepsTo};
+ghost use Rattle.taking.specs.Steps.{noBlock};
+
+pub fn reading_line(mut progress: Progress, line: &[u8]) -> Step
+    requires { ⌜ Known X (now line) ⌝ }
+    ensures { λ r. ⌜ StepsTo progress (now (line .entry)) noBlock r noBlock ⌝ }
+{
+    let site = progress.site;
+    let mut lasts = progress.lasts;
+    let judged = judge_reading(
+        line,
+        progress.last,
+        site.al,
+        site.filiere,
+        lasts.x,
+        progress.last_index,
+        progress.readings,
+    );
+    let number = judged.number;
+    if number != 0 {
+        return answer(number, progress);
+    }
+    let index = judged.index;
+    lasts.x = judged.key;
+    progress.lasts = lasts;
+    progress.readings += 1;
+    progress.last_index = index;
+    progress.last = 3;
+    Step {
+        number: 0,
+        progress,
+        reads: true,
+        position: judged.position,
+        index,
+        kind: judged.kind,
+    }
+}

@@ -1,0 +1,107 @@
+// Lines that are stored in the lent blocks: C, P and D.
+use crate::Progress;
+use crate::Step;
+use crate::answers::answer;
+use blocks::stores::put_points;
+use blocks::stores::put_profiles;
+use blocks::stores::put_sum;
+use calendar::spans::axis;
+use calendar::spans::history;
+use dated::judge_daily;
+use dated::judge_points;
+use dated::judge_profiles;
+ghost use mathlib.Core.Path.{_≡_};
+ghost use lib.ListN.{length};
+ghost use Rattle.meaning.specs.Line.{C, D, P};
+ghost use Rattle.judge.specs.Before.{Known};
+ghost use Rattle.taking.specs.Views.{StepsTo};
+ghost use Rattle.taking.specs.Steps.{pointBlocks, slotBlock, dailyBlock, FewDates};
+
+// C: 20 points in the row of its year.
+pub fn points_line(mut progress: Progress, line: &[u8], near: &mut [u32], far: &mut [u32]) -> Step
+    requires { ⌜ Known C (now line) × ((length (now near) ≡ 15200) × (length (now far) ≡ 15200)) ⌝ }
+    ensures { λ r. ⌜ StepsTo progress (now (line .entry)) (pointBlocks (now (near .entry)) (now (far .entry))) r (pointBlocks (now (near .exit)) (now (far .exit))) ⌝ }
+{
+    let site = progress.site;
+    let meter = site.meter;
+    let mut lasts = progress.lasts;
+    let mut codes = [0u64; 20];
+    let judged = judge_points(
+        line,
+        progress.last,
+        meter,
+        site.al,
+        site.filiere,
+        lasts.c,
+        &mut codes,
+    );
+    let refusal = judged.number;
+    if refusal != 0 {
+        return answer(refusal, progress);
+    }
+    put_points(near, far, site.al, judged.year, judged.place, &codes);
+    lasts.c = judged.key;
+    progress.lasts = lasts;
+    progress.last = 2;
+    answer(0, progress)
+}
+
+// P: 20 profile values in the row of its year, and one date more.
+pub fn profiles_line(mut progress: Progress, line: &[u8], slots: &mut [u16]) -> Step
+    requires { ⌜ Known P (now line) × FewDates (progress .tallies .«profile_dates») × (length (now slots) ≡ 30400) ⌝ }
+    ensures { λ r. ⌜ StepsTo progress (now (line .entry)) (slotBlock (now (slots .entry))) r (slotBlock (now (slots .exit))) ⌝ }
+{
+    let site = progress.site;
+    let mut lasts = progress.lasts;
+    let mut codes = [0u64; 20];
+    let judged = judge_profiles(
+        line,
+        progress.last,
+        site.al,
+        site.filiere,
+        lasts.p,
+        &mut codes,
+    );
+    let number = judged.number;
+    if number != 0 {
+        return answer(number, progress);
+    }
+    let years = history(site.al, site.filiere);
+    let year = judged.year;
+    let i = (year - years.first) as usize;
+    put_profiles(slots, years.first, year, judged.place, &codes);
+    let mut tallies = progress.tallies;
+    let dates = tallies.profile_dates[i];
+    tallies.profile_dates[i] = dates + 1;
+    lasts.p = judged.key;
+    progress.tallies = tallies;
+    progress.lasts = lasts;
+    progress.last = 5;
+    answer(0, progress)
+}
+
+// D: the daily sum at its position, and one date more.
+pub fn daily_line(mut progress: Progress, line: &[u8], daily: &mut [u32]) -> Step
+    requires { ⌜ Known D (now line) × FewDates (progress .tallies .«daily_dates») × (length (now daily) ≡ 4392) ⌝ }
+    ensures { λ r. ⌜ StepsTo progress (now (line .entry)) (dailyBlock (now (daily .entry))) r (dailyBlock (now (daily .exit))) ⌝ }
+{
+    let site = progress.site;
+    let mut lasts = progress.lasts;
+    let judged = judge_daily(line, progress.last, site.al, site.filiere, lasts.d);
+    let number = judged.number;
+    if number != 0 {
+        return answer(number, progress);
+    }
+    let years = axis(site.al, site.filiere);
+    let year = judged.year;
+    let i = (year - years.first) as usize;
+    put_sum(daily, judged.position, judged.sum);
+    let mut tallies = progress.tallies;
+    let dates = tallies.daily_dates[i];
+    tallies.daily_dates[i] = dates + 1;
+    lasts.d = judged.key;
+    progress.tallies = tallies;
+    progress.lasts = lasts;
+    progress.last = 4;
+    answer(0, progress)
+}

@@ -1,0 +1,117 @@
+// What 1 asks at the close of the blocks by winter place, points and profiles: at a date of the history what C and P can give, elsewhere fresh.
+ghost use mathlib.Core.Path.{_≡_};
+ghost use Prim.Native.Nat.{_+_, _≤_, min};
+ghost use mathlib.Core.Bool.{false};
+ghost use lib.ListN.{length};
+ghost use Rattle.lists.specs.Lists.{all};
+ghost use Rattle.meaning.specs.Record.{pointFits, pointsFit, slotsFit};
+ghost use Rattle.winter_blocks.specs.Winter.{datedAt, slotFits};
+use calendar::Years;
+
+// 152 winter places of 20 half-hours.
+const ROW: usize = 3040;
+
+const HALF_HOURS: usize = 20;
+
+const MISSING: u32 = 4294967295;
+
+const MOST_POWER: u32 = 100000000;
+
+// Whether a place in rows of winter dates has a date of the history: the first row is that of the year first.
+fn is_dated(history: Years, first: u64, place: usize) -> bool
+    requires { ⌜ first ≤ 9999 ⌝ }
+    ensures { λ r. ⌜ r ≡ datedAt history first place ⌝ }
+{
+    let year = first + (place / ROW) as u64;
+    if !calendar::spans::is_among(history, year) {
+        return false;
+    }
+    calendar::places::has_winter_date(year, place % ROW / HALF_HOURS)
+}
+
+// Where the day that begins at a place ends, in a block of a length.
+fn day_end(place: usize, length: usize) -> usize
+    requires { ⌜ place ≤ length ⌝ }
+    ensures { λ r. ⌜ r ≡ min (place + 20) length ⌝ }
+{
+    if length - place < HALF_HOURS {
+        return length;
+    }
+    place + HALF_HOURS
+}
+
+// The points of one day.
+fn points_on_day(points: &[u32], dated: bool) -> bool
+    ensures { λ r. ⌜ r ≡ all (pointFits dated) (now (points .entry)) ⌝ }
+{
+    let mut i = 0;
+    while i < points.len() {
+        let v = points[i];
+        if !point_fits(dated, v) {
+            return false;
+        }
+        i += 1;
+    }
+    true
+}
+
+fn point_fits(dated: bool, v: u32) -> bool
+    ensures { λ r. ⌜ r ≡ pointFits dated v ⌝ }
+{
+    if v == MISSING {
+        return true;
+    }
+    if !dated {
+        return false;
+    }
+    v <= MOST_POWER
+}
+
+// The near block where the first row is that of AL-9, the far block where it is that of AL-14. A day's date is looked up once.
+pub fn points_fit(block: &[u32], first: u64, history: Years) -> bool
+    requires { ⌜ first ≤ 9999 ⌝ }
+    ensures { λ r. ⌜ r ≡ pointsFit history first (now (block .entry)) ⌝ }
+{
+    let mut i = 0;
+    while i < block.len() {
+        let dated = is_dated(history, first, i);
+        let e = day_end(i, block.len());
+        if !points_on_day(&block[i..e], dated) {
+            return false;
+        }
+        i += HALF_HOURS;
+    }
+    true
+}
+
+// The profile values of a day without a date.
+fn all_zero(slots: &[u16]) -> bool
+    ensures { λ r. ⌜ r ≡ all (slotFits false) (now (slots .entry)) ⌝ }
+{
+    let mut i = 0;
+    while i < slots.len() {
+        if slots[i] != 0 {
+            return false;
+        }
+        i += 1;
+    }
+    true
+}
+
+// A profile value of a day that has a date can be any: no u16 is above 65,535.
+pub fn slots_fit(slots: &[u16], history: Years) -> bool
+    requires { ⌜ history .first ≤ 9999 ⌝ }
+    ensures { λ r. ⌜ r ≡ slotsFit history (now (slots .entry)) ⌝ }
+{
+    let mut i = 0;
+    while i < slots.len() {
+        let e = day_end(i, slots.len());
+        if !is_dated(history, history.first, i) {
+            if !all_zero(&slots[i..e]) {
+                return false;
+            }
+        }
+        i += HALF_HOURS;
+    }
+    true
+}

@@ -1,0 +1,23 @@
+use borrow.Author.Needs.{needs}
+use borrow.Author.Tests.{lt-ltb, le-ltb}
+use Rattle.year_ranges.specs.Ranges.{placeNumberFits}
+use Rattle.year_ranges.proofs.by_year.place_number_fits.Statement.{statement}
+use Rattle.year_ranges.proofs.by_year.place_number_fits.Tie as tie
+
+returns : tie.Need-returns
+unfolding placeNumberFits
+returns c = simp (le-ltb _ _ (c .if1 .taken))
+
+add-year-number-fits : tie.Need-add-year-number-fits
+add-year-number-fits c = search needs
+
+year-number-fits-requires : tie.Need-year-number-fits-requires
+year-number-fits-requires c κs = search needs
+
+returns-2 : tie.Need-returns-2
+unfolding placeNumberFits
+returns-2 c = rw (lt-ltb _ _ (c .before .before .if1 .left)) (c .year-number-fits .ensures)
+
+pub place-number-fits-spec : {M : Type 1} → statement M
+place-number-fits-spec =
+    tie.close (tie.spec returns add-year-number-fits year-number-fits-requires returns-2)
