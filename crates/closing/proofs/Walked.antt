@@ -1,6 +1,6 @@
 -- What the steps of a close have told, put together to what it hands back.
 use mathlib.Core.Path.{_≡_, ap, ap₂, sym, _∙_}
-use mathlib.Core.Bool.{true, false, not}
+use mathlib.Core.Bool.{Bool, true, false, not, cond}
 use mathlib.Core.List.{List}
 use Prim.Native.Nat.{ℕ, _≤_, _<_}
 use lib.Dec.{T}
@@ -95,8 +95,8 @@ module _ {t : Site} {n : ℕ} {k : Tallies} {w : World} (fit : FileFits t n k w)
             sym (ap (λ (x : Filling). x .exceeds) (filled-is .is) ∙ exceeds-is t n k true w energies totals cs is xs (means fit))
 
         -- 18
-        pub exceeds : {r : Closing} → r ≡ refusedBy 18 → f .exceeds ≡ true → handsBack r c ≡ closingMeant F c
-        exceeds e x = ap (λ (q : Closing). handsBack q c) e ∙ exceeded fit c number stop-is zero (too-high ∙ x)
+        pub exceeds : {r : Closing} {left : List ℕ} → r ≡ refusedBy 18 → left ≡ cond (f .exceeds) c after → f .exceeds ≡ true → handsBack r left ≡ closingMeant F c
+        exceeds e l x = ap₂ handsBack e (l ∙ ap (λ (b : Bool). cond b c after) x) ∙ exceeded fit c number stop-is zero (too-high ∙ x)
 
         pub whole : length after ≡ 4400
         unfolding curveIn
@@ -114,9 +114,9 @@ module _ {t : Site} {n : ℕ} {k : Tallies} {w : World} (fit : FileFits t n k w)
               known-filing = unfold filingHeld in (known fit)
 
           -- no refusal
-          pub reported : {r : Closing} {left : List ℕ} → r ≡ reportedBy (t .al) (t .filiere) h (m .codes) f → left ≡ after → handsBack r left ≡ closingMeant F c
+          pub reported : {r : Closing} {left : List ℕ} → r ≡ reportedBy (t .al) (t .filiere) h (m .codes) f → left ≡ cond (f .exceeds) c after → handsBack r left ≡ closingMeant F c
           reported e l =
-              ap₂ handsBack (e ∙ same ∙ reported-is fit fine) (l ∙ filled-is .curve ∙ curve-is t n k true w energies totals cs is xs (means fit) fine)
+              ap₂ handsBack (e ∙ same ∙ reported-is fit fine) (l ∙ ap (λ (b : Bool). cond b c after) x ∙ filled-is .curve ∙ curve-is t n k true w energies totals cs is xs (means fit) fine)
               ∙ reports fit c number stop-is zero (too-high ∙ x)
             where
               same : reportedBy (t .al) (t .filiere) h (m .codes) f

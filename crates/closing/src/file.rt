@@ -1,16 +1,60 @@
 // The close of a file.
 ghost use mathlib.Core.Path.{_≡_};
 ghost use mathlib.Core.Bool.{true};
+ghost use lib.ListN.{replicate};
 ghost use Rattle.intake.specs.Views.{siteView};
 ghost use Rattle.ranges.specs.Views.{talliesView};
+ghost use Rattle.meaning.specs.Level.{missingEntry};
 ghost use Rattle.meaning.specs.Record.{filingHeld};
+ghost use Rattle.points.specs.Sources.{casFrom};
+ghost use Rattle.curve.specs.Places.{held, basisOf};
+ghost use Rattle.curve.specs.Fits.{SiteFits, ListsFit, Filled};
 ghost use Rattle.closing.specs.Closes.{world, FileFits, handsBack, closingMeant};
 use crate::Closing;
 use crate::report;
+use curve::Filling;
 use intake::Site;
+use marks::Marks;
 use ranges::Tallies;
 
 const MISSING: u64 = 18446744073709551615;
+
+// The curve of all years by their marks, E and daily total by position. It comes in with every entry missing.
+fn filled_by<'a>(
+    site: Site,
+    tallies: Tallies,
+    m: Marks,
+    near: &'a [u32],
+    far: &'a [u32],
+    slots: &[u16],
+    energies: &[u64; 4392],
+    totals: &[u64; 4392],
+    curve: &mut [u64; 4400],
+) -> Filling
+    requires { ⌜ SiteFits (site .al) (site .filiere) (site .ps) × ListsFit (site .al) (now near) (now far) (now slots) (now energies) (now totals) (tallies .rates) ⌝ }
+    requires { ⌜ now curve ≡ replicate 4400 missingEntry ⌝ }
+    ensures { λ r. ⌜ Filled (basisOf (site .al) (site .filiere) (site .ps)) (held (now (near .entry)) (now (far .entry)) (now (slots .entry)) (now (energies .entry)) (now (totals .entry)) (m .curves) (m .indexes) (casFrom (basisOf (site .al) (site .filiere) (site .ps) .first) (site .filiere))) (m .codes) (tallies .rates) (now (curve .exit)) r ⌝ }
+{
+    let curves = m.curves;
+    let valid = m.indexes;
+    let codes = m.codes;
+    let rates = tallies.rates;
+    curve::whole::fill(
+        site.al,
+        site.filiere,
+        site.ps,
+        near,
+        far,
+        slots,
+        energies,
+        totals,
+        &curves,
+        &valid,
+        &codes,
+        &rates,
+        curve,
+    )
+}
 
 // Of a site, n readings, its tallies and the lent blocks. The curve is filled aside and lent back only where nothing is refused.
 pub fn close_file<'a>(
@@ -30,50 +74,24 @@ pub fn close_file<'a>(
     ensures { λ r. ⌜ handsBack r (now (curve .exit)) ≡ closingMeant (filingHeld (siteView site) n (talliesView tallies) true (world (now (near .entry)) (now (far .entry)) (now (slots .entry)) (now (daily .entry)) (now (positions .entry)) (now (indexes .entry)) (now (kinds .entry)) (now (curve .entry)))) (now (curve .entry)) ⌝ }
 {
     let h = calendar::spans::history(site.al, site.filiere);
-    let count = n as usize;
+    let size = n as usize;
     let meter = site.meter;
     let breaks = tallies.breaks;
-    let rates = tallies.rates;
-    let m = marks::marks_of(
-        site.al,
-        meter,
-        h,
-        breaks,
-        near,
-        far,
-        positions,
-        kinds,
-        count,
-    );
-    let mut energies = [0u64; 4392];
+    let m = marks::marks_of(site.al, meter, h, breaks, near, far, positions, kinds, size);
+    // E and daily total by position
+    let mut e = [0u64; 4392];
     let mut totals = [0u64; 4392];
-    intervals::days::spread(positions, indexes, daily, count, &mut energies, &mut totals);
-    let number = marks::stop_number(h, tallies, m, positions, count, &totals);
+    intervals::days::spread(positions, indexes, daily, size, &mut e, &mut totals);
+    let number = marks::stop_number(h, tallies, m, positions, size, &totals);
     if number != 0 {
         return report::refused(number);
     }
-    let curves = m.curves;
-    let valid = m.indexes;
     let codes = m.codes;
     let mut filled = [MISSING; 4400];
-    let f = curve::whole::fill(
-        site.al,
-        site.filiere,
-        site.ps,
-        near,
-        far,
-        slots,
-        &energies,
-        &totals,
-        &curves,
-        &valid,
-        &codes,
-        &rates,
-        &mut filled,
-    );
+    let f = filled_by(site, tallies, m, near, far, slots, &e, &totals, &mut filled);
+    report::lend(f.exceeds, &filled, curve);
     if f.exceeds {
         return report::refused(18);
     }
-    report::copy(&filled, curve);
     report::reported(site.al, site.filiere, h, codes, f)
 }

@@ -1,5 +1,6 @@
 // What a close hands back.
 ghost use mathlib.Core.Path.{_≡_};
+ghost use mathlib.Core.Bool.{cond};
 ghost use Prim.Native.Nat.{_≤_, _<_, _*_};
 ghost use lib.ListN.{length};
 ghost use Rattle.meaning.specs.Text.{letterOfCase};
@@ -89,8 +90,7 @@ pub fn reported(al: u64, filiere: u64, h: Years, codes: [u64; 10], f: Filling) -
     }
 }
 
-// The filled curve into the lent one.
-pub fn copy(filled: &[u64; 4400], curve: &mut [u64])
+fn copy(filled: &[u64; 4400], curve: &mut [u64])
     requires { ⌜ (length (now filled) ≡ 4400) × (length (now curve) ≡ 4400) ⌝ }
     ensures { λ r. ⌜ now (curve .exit) ≡ now (filled .entry) ⌝ }
 {
@@ -99,4 +99,15 @@ pub fn copy(filled: &[u64; 4400], curve: &mut [u64])
         curve[i] = filled[i];
         i += 1;
     }
+}
+
+// The filled curve into the lent one, which stays as it was where a point exceeds.
+pub fn lend(exceeds: bool, filled: &[u64; 4400], curve: &mut [u64])
+    requires { ⌜ (length (now filled) ≡ 4400) × (length (now curve) ≡ 4400) ⌝ }
+    ensures { λ r. ⌜ now (curve .exit) ≡ cond exceeds (now (curve .entry)) (now (filled .entry)) ⌝ }
+{
+    if exceeds {
+        return;
+    }
+    copy(filled, curve);
 }

@@ -26,7 +26,8 @@ use Rattle.meaning.specs.Record.{Tallies, filingHeld}
 use Rattle.donors.specs.declared.Basis.{Basis}
 use Rattle.years.specs.Years.{casFrom}
 use Rattle.tallies.specs.Tallies.{tally, pointIn, exceedsIn, tallyOf, entryIn}
-use Rattle.curve.specs.Places.{Held, held, placesOf, allPlacesIn, basisOf, presentYears, fillingOf, curveEntryIn, curveIn, nccOf}
+use Rattle.places.specs.Places.{Held, held}
+use Rattle.curve.specs.Places.{placesOf, allPlacesIn, basisOf, presentYears, fillingOf, curveEntryIn, curveIn, nccOf}
 use Rattle.tallies.proofs.Tallying.{any-join, map-join}
 use Rattle.curve.proofs.Filings.{map-each, map-tab, each-to, Means, few, year-is, all-is}
 

@@ -33,7 +33,8 @@ use Rattle.donors.specs.Given.{codeIn, readIn, profileIn, profiledOn, donorBy, 
 use Rattle.years.specs.Years.{positionIn, onDay, bit, giversOn, casFrom, casSum}
 use Rattle.points.specs.Sources.{Day, curveDonorsIn, indexDonorsIn, defaultIn, sourceIn}
 use Rattle.tallies.specs.Tallies.{place}
-use Rattle.curve.specs.Places.{Held, held, dayIn, placesOn, placesIn, placesOf, allPlacesIn, basisOf}
+use Rattle.places.specs.Places.{Held, held, dayIn, placesOn, placesIn}
+use Rattle.curve.specs.Places.{placesOf, allPlacesIn, basisOf}
 
 -- ---- lists that agree at each element
 pub map-each : {A B : Type 0} (f g : A → B) {xs : List A} → Each (λ x. f x ≡ g x) xs → map f xs ≡ map g xs

@@ -2,5 +2,4 @@ pub mod Close
 pub mod Filings
 pub mod Given
 pub mod Sites
-pub mod Walking
 pub mod Years

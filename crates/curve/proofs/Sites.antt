@@ -19,8 +19,10 @@ use Rattle.note.proofs.Factors.{theta-most}
 use Rattle.note.proofs.History.{ca-not-zero, ca-at-most}
 use Rattle.years.specs.Years.{casFrom, casSum}
 use Rattle.points.specs.Fits.{AtMost, CasFit, BasisFits}
-use Rattle.curve.specs.Places.{basisOf, held}
-use Rattle.curve.specs.Fits.{SiteFits, ListsFit, HeldFits}
+use Rattle.places.specs.Places.{held}
+use Rattle.curve.specs.Places.{basisOf}
+use Rattle.places.specs.Fits.{HeldFits}
+use Rattle.curve.specs.Fits.{SiteFits, ListsFit}
 
 caAt : ℕ → ℕ → ℕ → ℕ
 caAt first f k = caOf (first + k) f

@@ -20,11 +20,11 @@ use Rattle.meaning.specs.Level.{missingEntry}
 use Rattle.donors.specs.declared.Basis.{Basis}
 use Rattle.tallies.specs.declared.Tally.{Tally}
 use Rattle.tallies.specs.Tallies.{tally, tallyOf, entryIn, entriesOf, plus}
-use Rattle.curve.specs.Places.{Held, dayIn, placesOn, placesIn}
+use Rattle.places.specs.Places.{Held, dayIn, placesOn, placesIn}
 use Rattle.tallies.specs.Fits.{TallyFits}
-use Rattle.curve.specs.Fits.{Entered}
+use Rattle.places.specs.Fits.{Entered}
 use Rattle.tallies.proofs.Tallying.{nothing-plus, plus-nothing, tally-on, plus-fits, nothing-fits}
-use Rattle.curve.proofs.Walking.{hours-length}
+use Rattle.places.proofs.Walking.{hours-length}
 
 -- ---- how many places a year has
 flat-length : {A : Type 0} (f : ℕ → List A) (n : ℕ) → ((w : ℕ) → length (f w) ≡ n) → (ws : List ℕ) → length (flat (map f ws)) ≡ n * length ws

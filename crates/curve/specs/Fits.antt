@@ -1,28 +1,15 @@
--- What is known of a site and its lists once 1, 14 and 15 to 17 have passed, and what the walks promise.
+-- What is known of a site and its lists once 1, 14 and 15 to 17 have passed, and what the walk over all years promises.
 use mathlib.Core.Path.{_≡_}
 use mathlib.Core.List.{List}
-use Prim.Native.Nat.{ℕ, _+_, _*_, _≤_, _<_}
+use Prim.Native.Nat.{ℕ, _*_, _≤_}
 use lib.Dec.{T}
-use lib.ListN.{length, getD}
-use lib.Seq.{sets}
+use lib.ListN.{length}
 use Rattle.calendar.specs.Spans.{isKnown}
-use Rattle.note.specs.Peaks.{peakDays}
-use Rattle.meaning.specs.Points.{Place}
 use Rattle.meaning.specs.Blocks.{slotsSize}
 use Rattle.donors.specs.declared.Basis.{Basis}
-use Rattle.points.specs.Fits.{AtMost, PointsFit, CasFit, RatesFit, BasisFits}
-use Rattle.tallies.specs.declared.Tally.{Tally}
+use Rattle.points.specs.Fits.{AtMost, PointsFit, RatesFit, BasisFits}
 use Rattle.curve.specs.declared.Filling.{Filling}
-use Rattle.tallies.specs.Tallies.{tallyOf, entriesOf}
-use Rattle.tallies.specs.Fits.{TallyFits}
 use Rattle.curve.specs.Places.{Held, basisOf, fillingOf, curveIn}
-
-pub record HeldFits (b : Basis) (l : Held) : Type 0 where
-  pub points : PointsFit (b .al) (l .near) (l .far)
-  pub slots : length (l .slots) ≡ slotsSize
-  pub energies : AtMost 1000000000000 (l .energies)
-  pub totals : AtMost 13815826560 (l .totals)
-  pub cas : CasFit (b .count) (l .cas)
 
 -- a site that document 01 accepts
 pub record SiteFits (al f p : ℕ) : Type 0 where
@@ -38,21 +25,11 @@ pub record ListsFit (al : ℕ) (near far profiles es ts rs : List ℕ) : Type 0 
   pub totals : AtMost 13815826560 ts
   pub rates : RatesFit rs
 
--- some places were entered from place `at` of the curve on
-pub record Entered (n at : ℕ) (qs : List Place) (before after : List ℕ) (t : Tally) : Type 0 where
-  pub tally : t ≡ tallyOf qs
-  pub fits : TallyFits n t
-  pub curve : after ≡ sets before at (entriesOf qs)
-
 pub record Filled (b : Basis) (l : Held) (cases rates : List ℕ) (after : List ℕ) (r : Filling) : Type 0 where
   pub is : r ≡ fillingOf b l cases rates
   pub curve : after ≡ curveIn b l cases rates
   pub sum : r .sum ≤ 20000000000000 * r .counted
   pub counted : r .counted ≤ 4400
-
-pub record PeakDayIs (y j r : ℕ) : Type 0 where
-  pub is : r ≡ getD (peakDays y) j 0
-  pub fits : r < 152
 
 pub record BasisIs (al f ps : ℕ) (r : Basis) : Type 0 where
   pub is : r ≡ basisOf al f ps

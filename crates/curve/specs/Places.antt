@@ -1,57 +1,22 @@
 -- The places of a site's curve, by the lists that hold its years (document 01, Calls and the lines of a file; Peak days and coefficients).
-use mathlib.Core.Bool.{Bool, _&&_, cond}
+use mathlib.Core.Bool.{cond}
 use mathlib.Core.List.{List, map}
-use Prim.Native.Nat.{ℕ, _+_, _-_, _*_, _/_, _%_}
+use Prim.Native.Nat.{ℕ, _/_, _%_}
 use lib.Dec.{ltb}
-use lib.ListN.{length, getD}
+use lib.ListN.{getD}
 use Rattle.lists.specs.Lists.{tab, flat}
 use Rattle.calendar.specs.Spans.{historyYears}
-use Rattle.note.specs.Peaks.{peakDays, peakCount}
 use Rattle.note.specs.Coefficients.{theta, coefficientC}
 use Rattle.rounding.specs.Points.{rounded, level}
-use Rattle.meaning.specs.Cases.{Case}
 use Rattle.meaning.specs.Points.{Place}
 use Rattle.meaning.specs.Level.{missingEntry}
 use Rattle.donors.specs.declared.Basis.{Basis}
 use Rattle.points.specs.Cases.{meantCase, caseOfCode}
-use Rattle.years.specs.Years.{onDay, giversOn, casFrom, casSum}
-use Rattle.points.specs.Sources.{Day, day, sourceIn}
+use Rattle.years.specs.Years.{casFrom, casSum}
 use Rattle.curve.specs.declared.Filling.{Filling}
-use Rattle.curve.specs.declared.Marks.{Marks}
-use Rattle.tallies.specs.Tallies.{place, tallyOf, entryIn}
-
--- points and slot profiles, E and daily total by position, and by history year valid curves, valid indexes and CA
-pub record Held : Type 0 where
-  pub near : List ℕ
-  pub far : List ℕ
-  pub slots : List ℕ
-  pub energies : List ℕ
-  pub totals : List ℕ
-  pub curves : List ℕ
-  pub indexes : List ℕ
-  pub cas : List ℕ
-
-abbrev pub held : List ℕ → List ℕ → List ℕ → List ℕ → List ℕ → List ℕ → List ℕ → List ℕ → Held
-held n f s e t v i c = record { near = n; far = f; slots = s; energies = e; totals = t; curves = v; indexes = i; cas = c }
-
--- with the marks of the history years and their CA
-abbrev pub marks : List ℕ → List ℕ → List ℕ → Marks
-marks v i c = record { curves = v; indexes = i; cas = c }
-
-abbrev pub heldWith : List ℕ → List ℕ → List ℕ → List ℕ → List ℕ → Marks → Held
-heldWith n f s e t m = held n f s e t (m .curves) (m .indexes) (m .cas)
-
--- what the points of a winter day are made from
-unfoldable pub dayIn : ℕ → Held → ℕ → Day
-dayIn first l w = day (l .near) (l .far) (l .slots) (onDay (l .energies) w) (onDay (l .totals) w) (giversOn (l .indexes) first w) (l .curves) (l .cas)
-
--- ---- places: k is a year's number from the oldest, w a winter place, h a half-hour
-unfoldable pub placesOn : Basis → Day → Case → ℕ → ℕ → ℕ → List Place
-placesOn b d x rate k w = tab 20 0 (λ h. place rate (sourceIn b d x k w h))
-
--- a year's peak days in date order
-unfoldable pub placesIn : Basis → Held → Case → ℕ → ℕ → List Place
-placesIn b l x rate k = flat (map (λ w. placesOn b (dayIn (b .first) l w) x rate k w) (peakDays (b .first + k)))
+use Rattle.tallies.specs.Tallies.{tallyOf, entryIn}
+use Rattle.places.specs.Places.{placesIn}
+pub use Rattle.places.specs.Places.{Held, held}
 
 -- by the codes of the years' cases and their rates
 unfoldable pub placesOf : Basis → Held → List ℕ → List ℕ → ℕ → List Place

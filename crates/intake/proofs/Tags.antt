@@ -9,7 +9,7 @@ use Rattle.meaning.specs.Line.{meterOf, meterOfLetter, kindOf, kindOfLetter, is
 use Rattle.meaning.specs.Filing.{Meter, noMeter, curveMeter, indexMeter, Kind, real, corrected, estimated, strange}
 use Rattle.meaning.specs.Blocks.{letterOfKind}
 use Rattle.intake.specs.Views.{meterView, meterShown}
-pub use Rattle.tags.proofs.Tags.{letter-no, letter-is, tag-no, tag-is, tabs-le, known, not-known, unknown, known-tag}
+pub use Rattle.tags.proofs.Tags.{letter-no, letter-is, tag-none, tag-long, tag-first, known, not-known, known-with, fields-none, fields-long, fields-strange, fields-all, told-illegible, told-legible, unknown, known-tag}
 
 pub meter-no : (f : List ℕ) → (length f ≡ 1 → ⊥) → meterOf f ≡ noMeter
 unfolding meterOf

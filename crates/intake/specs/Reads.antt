@@ -7,7 +7,7 @@ use Rattle.text.specs.Numbers.{most}
 use Rattle.meaning.specs.Line.{Line, Tag, S, X, D, B, R, E, Form, formsOf, inForm, someField, numberAt, meterOf, kindOf}
 use Rattle.meaning.specs.Blocks.{letterOfKind}
 use Rattle.intake.specs.Views.{meterShown}
-unfoldable pub use Rattle.tags.specs.Tags.{knownTag}
+unfoldable pub use Rattle.tags.specs.Tags.{knownTag, legibleFields, tagWith}
 pub use Rattle.tags.specs.Tags.{sizes}
 use Rattle.intake.specs.declared.SiteRead.{SiteRead}
 use Rattle.intake.specs.declared.ReadingRead.{ReadingRead}

@@ -1,8 +1,8 @@
 -- How large the energies and the daily sums of a filing can be.
-use mathlib.Core.Path.{_≡_, refl, ap}
+use mathlib.Core.Path.{_≡_, refl, ap, sym, _∙_}
 use mathlib.Core.Logic.{⊎-elim}
 use mathlib.Core.Bool.{Bool, true, false, _&&_, _||_}
-use mathlib.Core.List.{List}
+use mathlib.Core.List.{List, map}
 use mathlib.Core.Option.{Option, some, none}
 use Prim.Native.Nat.{ℕ, _+_, _-_, _*_, _≤_, _<_}
 use native.Mathlib.Nat.{le-trans}
@@ -10,7 +10,7 @@ use native.Mathlib.Omega.{arith}
 use lib.Dec.{T, eqb, leb, ltb, leb→le}
 use lib.ListN.{length, getD, List·getD-eq-default}
 use borrow.Author.Tests.{ltb-true, ltb-false}
-use Rattle.lists.specs.Lists.{firstOf, tab, range, sum}
+use Rattle.lists.specs.Lists.{allAt, firstOf, tab, range, sum}
 use Rattle.lists.proofs.Laws.{length-tab, getD-tab0}
 use Rattle.lists.proofs.Reflect.{of-eq, of-or}
 use Rattle.lists.proofs.Snoc.{allAt-at}
@@ -24,9 +24,9 @@ use Rattle.meaning.specs.Filing.{Site}
 use Rattle.meaning.specs.Line.{mostDaily}
 use Rattle.meaning.specs.Blocks.{World, readingsOf}
 use Rattle.meaning.specs.Record.{historyOfSite, readingsFit, dailyFits}
-use Rattle.intervals.specs.Columns.{Rising}
+use Rattle.intervals.specs.Columns.{opens, closes, Rising}
 use Rattle.intervals.specs.Days.{isAround, around, energyIn, sumBetween, totalIn, ofInterval, energyAt, totalAt, energiesOf, totalsOf}
-use Rattle.intervals.proofs.Filed.{fits}
+use Rattle.intervals.proofs.Filed.{Fits, fits}
 
 -- what each place of a table is at most, each element is, and so is a missing one
 table-most : (n m : ℕ) (f : ℕ → ℕ) → ((p : ℕ) → f p ≤ m) → (p : ℕ) → getD (tab n 0 f) p 0 ≤ m

@@ -1,7 +1,7 @@
 // Whether the index of a history year is valid: no break, readings around it, and both ends trusted where an interval has one of its winter days.
 use crate::columns;
 ghost use mathlib.Core.Path.{_≡_};
-ghost use Prim.Native.Nat.{_+_, _<_, _≤_};
+ghost use Prim.Native.Nat.{_+_, _-_, _<_, _≤_};
 ghost use lib.ListN.{length};
 ghost use Rattle.intervals.specs.Index.{coversYear, isSoundAt, isSoundYear, validIndex};
 

@@ -1,4 +1,3 @@
-pub mod Given
 pub mod Opens
 pub mod Same
 pub mod Steps

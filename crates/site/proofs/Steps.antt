@@ -2,33 +2,28 @@
 use mathlib.Core.Path.{_≡_, refl, ap, sym, _∙_}
 use mathlib.Core.Bool.{Bool, true, false, _&&_, not, cond}
 use mathlib.Core.List.{List}
-use Prim.Native.Nat.{ℕ, _+_, _≤_}
-use native.Mathlib.Omega.{arith}
+use Prim.Native.Nat.{ℕ, _≤_}
 use lib.Dec.{T, eqb, leb, leb→le}
 use lib.ListN.{length, set}
-use borrow.Author.Tests.{eq-eqb, ne-eqb}
+use borrow.Author.Tests.{eq-eqb}
 use Rattle.meaning.specs.Line.{Line, mostIndex}
-use Rattle.meaning.specs.Refusals.{isTooSoon, mostReadings}
+use Rattle.meaning.specs.Refusals.{isTooSoon, mostReadings, refusal}
 use Rattle.meaning.specs.Blocks.{World, sizesFit}
-use Rattle.meaning.specs.Record.{Rec, inState, recFits, siteFits, isTaken, lastsFit, talliesFit, historyOfRec}
-use Rattle.meaning.specs.Calls.{Answer, took, Out, out, refused, leaves, lineOf}
+use Rattle.meaning.specs.Record.{Rec, recFits, beforeOf, siteFits, isTaken, lastsFit, talliesFit, historyOfRec}
+use Rattle.meaning.specs.Calls.{Out, out, refused, leaves, judged, lineOf}
 use Rattle.taking.specs.declared.Progress.{Progress}
 use Rattle.taking.specs.Views.{recOf, openRec}
 use Rattle.taking.specs.Steps.{Stepped, world, noBlock, lineBlocks, LineSizes, stepOf, heard}
 use Rattle.taking.proofs.Calls.{to-store, line-heard}
-use Rattle.site.specs.Sizes.{lengthsFit}
+use Rattle.early.specs.Stops.{lengthsFit, earlyStop}
+use Rattle.early.proofs.Laws.{Sized, sized, by-lengths, parts}
 use Rattle.site.specs.Columns.{InColumns}
-use Rattle.site.proofs.Opens.{Sized, sized, by-lengths}
 
--- ---- 1, by what the code has asked
-pub tested : (s : Rec) (w : World) (a b x : Bool)
-    → a ≡ lengthsFit (length (w .near)) (length (w .far)) (length (w .slots)) (length (w .daily)) (length (w .positions)) (length (w .indexes)) (length (w .kinds)) (length (w .curve))
-    → b ≡ recFits s → x ≡ (a && b) → (sizesFit w && recFits s) ≡ x
-tested s w a b x ea eb ex = sym (ex ∙ rw (ea, eb, by-lengths w))
-
-pub parts : (a b : Bool) → (a && b) ≡ true → (a ≡ true) × (b ≡ true)
-parts true b e = (refl, e)
-parts false b e = let z : _≡_ {A = ℕ} 0 1 = cc in absurd (omega arith)
+-- ---- 1 and 13, by the lengths that the code has asked
+pub asked : (s : Rec) (w : World) (n : ℕ)
+    → n ≡ earlyStop (lengthsFit (length (w .near)) (length (w .far)) (length (w .slots)) (length (w .daily)) (length (w .positions)) (length (w .indexes)) (length (w .kinds)) (length (w .curve)) && recFits s) (s .state)
+    → n ≡ earlyStop (sizesFit w && recFits s) (s .state)
+asked s w n e = e ∙ ap (λ (b : Bool). earlyStop (b && recFits s) (s .state)) (by-lengths w)
 
 -- the count is at most 9999
 few-lines : (s : Rec) → recFits s ≡ true → s .count ≤ 9999
@@ -72,13 +67,15 @@ unfolding heard
 heard-stays n a v u e = rw e
 
 module _ (s : Rec) (l : Line) (w : World) where
-  pub line-1 : (sizesFit w && recFits s) ≡ false → (o : Out) → o ≡ leaves 1 s noBlock → out (o .answer) (o .after) w ≡ lineOf s l w
-  unfolding lineOf leaves
-  line-1 e o q = rw (q, e)
-
-  pub line-13 : (sizesFit w && recFits s) ≡ true → (s .state ≡ 1 → ⊥) → (o : Out) → o ≡ leaves 13 s noBlock → out (o .answer) (o .after) w ≡ lineOf s l w
-  unfolding lineOf leaves
-  line-13 e h o q = rw (q, e, ne-eqb (s .state) 1 h)
+  -- 1 and 13
+  pub line-early : (n : ℕ) → n ≡ earlyStop (sizesFit w && recFits s) (s .state) → (n ≡ 0 → ⊥) → (o : Out) → o ≡ leaves n s noBlock → out (o .answer) (o .after) w ≡ lineOf s l w
+  unfolding lineOf leaves earlyStop
+  line-early n q h o t = rw t (go (sizesFit w && recFits s) (eqb (s .state) 1) n q h)
+    where
+      go : (b x : Bool) (n : ℕ) → n ≡ cond b (cond x 0 13) 1 → (n ≡ 0 → ⊥) → out (refused n (s .count)) s w ≡ cond b (cond x (judged (refusal (beforeOf s) l) s l w) (out (refused 13 (s .count)) s w)) (out (refused 1 (s .count)) s w)
+      go true true n q h = absurd (h q)
+      go true false n q h = rw q
+      go false x n q h = rw q
 
   -- the step, the columns after it and what is told
   pub line-step : (sizesFit w && recFits s) ≡ true → s .state ≡ 1 → (o : Stepped) → o ≡ stepOf s l (lineBlocks (w .near) (w .far) (w .slots) (w .daily))

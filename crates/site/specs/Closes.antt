@@ -1,13 +1,13 @@
 -- What a close hands back: answer, record, ten years and the lent lists (document 01, Calls).
-use mathlib.Core.Bool.{Bool, _&&_, cond}
+use mathlib.Core.Bool.{cond}
 use mathlib.Core.List.{List}
 use Prim.Native.Nat.{ℕ}
 use lib.Dec.{eqb}
-use lib.ListN.{length, replicate}
+use lib.ListN.{replicate}
 use Rattle.meaning.specs.Blocks.{World}
-use Rattle.meaning.specs.Record.{Rec, inState, recFits, contentsFit}
+use Rattle.meaning.specs.Record.{Rec, inState}
 use Rattle.meaning.specs.Calls as meant
-use Rattle.meaning.specs.Calls.{Out, took, refused, reports}
+use Rattle.meaning.specs.Calls.{Out, out, took, refused, reports}
 use Rattle.closing.specs.declared.Year.{Year}
 use Rattle.closing.specs.declared.Closing.{Closing}
 use Rattle.closing.specs.Rows.{noYear}
@@ -16,13 +16,6 @@ use Rattle.site.specs.declared.Answer.{Answer}
 use Rattle.site.specs.declared.Answer.the-variants.{Took, Refused, Reports}
 use Rattle.site.specs.declared.Closed.{Closed}
 use Rattle.site.specs.Views.{view}
-use Rattle.site.specs.Sizes.{lengthsFit}
-
--- 1 at the close, by the length of the curve and the other lists
-unfoldable pub allFit : Rec → ℕ → World → Bool
-allFit s c w =
-    lengthsFit (length (w .near)) (length (w .far)) (length (w .slots)) (length (w .daily)) (length (w .positions)) (length (w .indexes)) (length (w .kinds)) c
-    && (recFits s && contentsFit s w)
 
 pub record Handed : Type 0 where
   pub answer : Answer
@@ -53,6 +46,10 @@ yearsBeside (reports r) = yearsShown (r .years)
 
 unfoldable pub handed : Out → Handed
 handed o = hands (answerShown (o .answer)) (o .after) (yearsBeside (o .answer)) (o .world)
+
+-- a refusal that leaves the record in a state
+unfoldable pub stops : ℕ → ℕ → Rec → World → Out
+stops st n s w = out (refused n (s .count)) (inState st (s .count) s) w
 
 -- ---- what is told of the close of a file: a refusal by 15 to 18 marks the record refused, a report closes it
 unfoldable pub closeHeard : Rec → Closing → World → Handed

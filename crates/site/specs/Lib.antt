@@ -1,4 +1,3 @@
 pub mod Views
-pub mod Sizes
 pub mod Columns
 pub mod Closes

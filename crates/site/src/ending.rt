@@ -2,75 +2,31 @@
 use crate::Answer;
 use crate::Closed;
 use crate::Record;
-use crate::checks::given;
-use crate::checks::sizes_fit;
-use calendar::spans::axis;
-use calendar::spans::history;
 use closing::Closing;
 use closing::Year;
 use closing::close_file;
-use contents::contents_fit;
-use intake::both;
+use early::close_stop;
 ghost use mathlib.Core.Path.{_≡_};
-ghost use mathlib.Core.List.{[]};
-ghost use lib.ListN.{length};
-ghost use Rattle.meaning.specs.Calls.{leaves, closeOf};
+ghost use mathlib.Core.Bool.{cond};
+ghost use lib.Dec.{eqb};
+ghost use Rattle.meaning.specs.Calls.{closeOf};
 ghost use Rattle.taking.specs.Steps.{noBlock};
 ghost use Rattle.site.specs.Views.{view, world};
-ghost use Rattle.site.specs.Closes.{allFit, closesBack, handed, closeHeard};
+ghost use Rattle.site.specs.Closes.{closesBack, handed, stops, closeHeard};
 
-// 1, with what the blocks hold.
-fn all_fit(
-    rec: Record,
-    near: &[u32],
-    far: &[u32],
-    slots: &[u16],
-    daily: &[u32],
-    positions: &[u32],
-    indexes: &[u64],
-    kinds: &[u8],
-    curve: usize,
-) -> bool
-    ensures { λ r. ⌜ r ≡ allFit (view rec) curve (world (now (near .entry)) (now (far .entry)) (now (slots .entry)) (now (daily .entry)) (now (positions .entry)) (now (indexes .entry)) (now (kinds .entry)) []) ⌝ }
+// 1 and 13 leave the state; 14 marks the record refused.
+fn stopped_state(number: u64, state: u64) -> u64
+    ensures { λ r. ⌜ r ≡ cond (eqb number 14) 2 state ⌝ }
 {
-    let fit = sizes_fit(
-        near.len(),
-        far.len(),
-        slots.len(),
-        daily.len(),
-        positions.len(),
-        indexes.len(),
-        kinds.len(),
-        curve,
-    );
-    if !both(fit, rec.fits()) {
-        return false;
+    if number == 14 {
+        return 2;
     }
-    let taken = rec.progress.last != 0;
-    let site = rec.progress.site;
-    let al = given(taken, site.al);
-    let filiere = given(taken, site.filiere);
-    let years = history(al, filiere);
-    let around = axis(al, filiere);
-    let n = rec.progress.readings as usize;
-    contents_fit(
-        near,
-        far,
-        slots,
-        daily,
-        positions,
-        indexes,
-        kinds,
-        n,
-        site.al,
-        years,
-        around,
-    )
+    state
 }
 
 // A refusal: the count is the record's.
-fn refuse(rec: Record, number: u64) -> Closed
-    ensures { λ r. ⌜ closesBack r noBlock ≡ handed (leaves number (view rec) noBlock) ⌝ }
+fn refuse(mut rec: Record, state: u64, number: u64) -> Closed
+    ensures { λ r. ⌜ closesBack r noBlock ≡ handed (stops state number (view rec) noBlock) ⌝ }
 {
     let none = Year {
         year: 0,
@@ -78,6 +34,7 @@ fn refuse(rec: Record, number: u64) -> Closed
         present: 0,
     };
     let count = rec.count;
+    rec.state = state;
     Closed {
         record: rec,
         answer: Answer::Refused { number, count },
@@ -91,8 +48,7 @@ fn tell(mut rec: Record, closing: Closing) -> Closed
 {
     let number = closing.number;
     if number != 0 {
-        rec.state = 2;
-        return refuse(rec, number);
+        return refuse(rec, 2, number);
     }
     let site = rec.progress.site;
     let years = closing.years;
@@ -124,9 +80,11 @@ impl Record {
     ) -> Closed
         ensures { λ r. ⌜ closesBack r (world (now (near .entry)) (now (far .entry)) (now (slots .entry)) (now (daily .entry)) (now (positions .entry)) (now (indexes .entry)) (now (kinds .entry)) (now (curve .exit))) ≡ handed (closeOf (view self) (world (now (near .entry)) (now (far .entry)) (now (slots .entry)) (now (daily .entry)) (now (positions .entry)) (now (indexes .entry)) (now (kinds .entry)) (now (curve .entry)))) ⌝ }
     {
-        let state = self.state;
-        let fit = all_fit(
-            self,
+        let progress = self.progress;
+        let early = close_stop(
+            self.state,
+            self.count,
+            progress,
             near,
             far,
             slots,
@@ -136,21 +94,14 @@ impl Record {
             kinds,
             curve.len(),
         );
-        if !fit {
-            return refuse(self, 1);
+        if early != 0 {
+            return refuse(self, stopped_state(early, self.state), early);
         }
-        if state != 1 {
-            return refuse(self, 13);
-        }
-        if self.progress.last != 8 {
-            self.state = 2;
-            return refuse(self, 14);
-        }
-        let site = self.progress.site;
-        let tallies = self.progress.tallies;
+        let site = progress.site;
+        let tallies = progress.tallies;
         let closing = close_file(
             site,
-            self.progress.readings,
+            progress.readings,
             tallies,
             near,
             far,

@@ -2,7 +2,7 @@
 //
 // Each call takes the record and hands it back, with the lent blocks as further parameters. What it promises is one equation: answer, record and all
 // lent lists are what the definitions of document 01 say of the record and the lists that came.
-mod checks; // 1: sizes and ranges
+mod checks; // 1 on the fields of the record
 mod ending; // the close of a file
 mod lines; // one line of a file
 mod opening; // a fresh record and fresh blocks

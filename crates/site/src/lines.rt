@@ -1,11 +1,10 @@
 // One line of a file.
 use crate::Opened;
 use crate::Record;
-use crate::checks::sizes_fit;
 use crate::telling::leave;
 use crate::telling::tell;
 use blocks::stores::put_reading;
-use intake::both;
+use early::line_stop;
 use taking::take_line;
 ghost use mathlib.Core.Path.{_≡_};
 ghost use mathlib.Core.Bool.{true, cond};
@@ -51,7 +50,11 @@ impl Record {
     ) -> Opened
         ensures { λ r. ⌜ handsBack r (world (now (near .exit)) (now (far .exit)) (now (slots .exit)) (now (daily .exit)) (now (positions .exit)) (now (indexes .exit)) (now (kinds .exit)) (now (curve .entry))) ≡ lineOf (view self) (now (line .entry)) (world (now (near .entry)) (now (far .entry)) (now (slots .entry)) (now (daily .entry)) (now (positions .entry)) (now (indexes .entry)) (now (kinds .entry)) (now (curve .entry))) ⌝ }
     {
-        let fit = sizes_fit(
+        let progress = self.progress;
+        let early = line_stop(
+            self.state,
+            self.count,
+            progress,
             near.len(),
             far.len(),
             slots.len(),
@@ -61,13 +64,9 @@ impl Record {
             kinds.len(),
             curve.len(),
         );
-        if !both(fit, self.fits()) {
-            return leave(self, 1);
+        if early != 0 {
+            return leave(self, early);
         }
-        if self.state != 1 {
-            return leave(self, 13);
-        }
-        let progress = self.progress;
         let n = progress.readings as usize;
         let step = take_line(progress, self.count, line, near, far, slots, daily);
         store_reading(

@@ -2,19 +2,21 @@
 use crate::Answer;
 use crate::Opened;
 use crate::Record;
-use crate::checks::sizes_fit;
+use crate::telling::leave;
 use blocks::fills::fill_u8;
 use blocks::fills::fill_u16;
 use blocks::fills::fill_u32;
 use blocks::fills::fill_u64;
+use early::sizes_fit;
 use intake::Meter;
 use intake::Site;
 use ranges::Lasts;
 use ranges::Tallies;
 use taking::Progress;
 ghost use mathlib.Core.Path.{_≡_};
-ghost use Rattle.meaning.specs.Record.{emptyRec, neverOpened};
-ghost use Rattle.meaning.specs.Calls.{openingOf};
+ghost use Rattle.meaning.specs.Record.{emptyRec, freshRec, neverOpened};
+ghost use Rattle.meaning.specs.Calls.{out, took, openingOf};
+ghost use Rattle.taking.specs.Steps.{noBlock};
 ghost use Rattle.site.specs.Views.{view, world, handsBack};
 
 // A missing point, a missing entry of the curve, and the letter of an estimated reading.
@@ -65,6 +67,17 @@ fn empty(state: u64) -> Record
     }
 }
 
+// Open, with nothing taken.
+fn opened() -> Opened
+    ensures { λ r. ⌜ handsBack r noBlock ≡ out took freshRec noBlock ⌝ }
+{
+    let record = empty(1);
+    Opened {
+        record,
+        answer: Answer::Took,
+    }
+}
+
 impl Record {
     pub fn never_opened() -> Record
         ensures { λ r. ⌜ view r ≡ neverOpened ⌝ }
@@ -97,11 +110,7 @@ impl Record {
             curve.len(),
         );
         if !fit {
-            let count = self.count;
-            return Opened {
-                record: self,
-                answer: Answer::Refused { number: 1, count },
-            };
+            return leave(self, 1);
         }
         fill_u32(near, NO_POINT);
         fill_u32(far, NO_POINT);
@@ -111,10 +120,6 @@ impl Record {
         fill_u64(indexes, 0);
         fill_u8(kinds, ESTIMATED);
         fill_u64(curve, NO_ENTRY);
-        self = empty(1);
-        Opened {
-            record: self,
-            answer: Answer::Took,
-        }
+        opened()
     }
 }

@@ -10,8 +10,8 @@ use crate::reading::reading_line;
 use crate::stored::daily_line;
 use crate::stored::points_line;
 use crate::stored::profiles_line;
-use intake::is_illegible;
 use intake::known_tag;
+use intake::legible_fields;
 ghost use mathlib.Core.Path.{_≡_};
 ghost use mathlib.Core.Bool.{true};
 ghost use Rattle.meaning.specs.Record.{recFits};
@@ -31,10 +31,11 @@ pub fn take_line(
     requires { ⌜ (recFits (openRec count progress) ≡ true) × LineSizes (lineBlocks (now near) (now far) (now slots) (now daily)) ⌝ }
     ensures { λ r. ⌜ stepView count r (lineBlocks (now (near .exit)) (now (far .exit)) (now (slots .exit)) (now (daily .exit))) ≡ stepOf (openRec count progress) (now (line .entry)) (lineBlocks (now (near .entry)) (now (far .entry)) (now (slots .entry)) (now (daily .entry))) ⌝ }
 {
-    if is_illegible(line) {
+    let n = legible_fields(line);
+    if n == 0 {
         return answer(2, progress);
     }
-    let tag = known_tag(line);
+    let tag = known_tag(line, n);
     match tag {
         1 => site_line(progress, line),
         2 => points_line(progress, line, near, far),

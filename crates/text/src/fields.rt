@@ -8,7 +8,7 @@
 ghost use mathlib.Core.Path.{_≡_};
 ghost use Prim.Native.Nat.{_+_, min};
 ghost use lib.ListN.{drop};
-ghost use Rattle.text.specs.Fields.{upTo, tabAt, tabs, fieldAt, reads, edition};
+ghost use Rattle.text.specs.Fields.{upTo, tabAt, reads, edition};
 
 const TAB: u8 = 9;
 
@@ -47,40 +47,6 @@ pub fn after(s: &[u8], e: usize) -> &[u8]
 {
     let k = past(s.len(), e);
     &s[k..]
-}
-
-// How many tabs.
-pub fn tab_count(s: &[u8]) -> usize
-    ensures { λ r. ⌜ r ≡ tabs (now (s .entry)) ⌝ }
-{
-    let mut n = 0;
-    let mut i = 0;
-    while i < s.len() {
-        if s[i] == TAB {
-            n += 1;
-        }
-        i += 1;
-    }
-    n
-}
-
-// The n-th field, from 0: none where the line has fewer. One pass, up to that field's end.
-pub fn nth_field(s: &[u8], n: usize) -> &[u8]
-    ensures { λ r. ⌜ now r ≡ fieldAt (now (s .entry)) n ⌝ }
-{
-    let mut t = s;
-    let mut k = 0;
-    while k < n {
-        let e = tab(t);
-        if t.len() <= e {
-            return &t[..0];
-        }
-        let a = past(t.len(), e);
-        t = &t[a..];
-        k += 1;
-    }
-    let e = tab(t);
-    &t[..e]
 }
 
 // Whether a field is a text, byte for byte.

@@ -7,15 +7,17 @@ use lib.ListN.{length, getD, set}
 use Rattle.lists.proofs.Laws.{length-tab}
 use Rattle.points.specs.Cases.{meantCase, caseOfCode}
 use Rattle.tallies.specs.Tallies.{plus}
-use Rattle.curve.specs.Places.{heldWith, placesIn, placesOf, allPlacesIn, presentYears, fillingOf, curveEntryIn, curveIn}
-use Rattle.curve.specs.Fits.{Entered, Filled}
+use Rattle.places.specs.Places.{heldWith, placesIn}
+use Rattle.curve.specs.Places.{placesOf, allPlacesIn, presentYears, fillingOf, curveEntryIn, curveIn}
+use Rattle.places.specs.Fits.{Entered}
+use Rattle.curve.specs.Fits.{Filled}
 use Rattle.curve.proofs.Years.{year-length, YearsWalked, no-years, years-on, years-over, present-length}
 use Rattle.curve.proofs.whole.all_years.Statement.{statement}
 use Rattle.curve.proofs.whole.all_years.Tie as tie
 use Rattle.curve.proofs.whole.all_years.Reads as reads
 use Rattle.curve.proofs.whole.all_years.Lts as lts
 use Rattle.tallies.proofs.plus.Reads as plus-reads
-use Rattle.curve.proofs.walk.year_places.Reads as year-places-reads
+use Rattle.places.proofs.year_places.Reads as year-places-reads
 use Rattle.points.proofs.cases.case_at.Reads as case-at-reads
 
 abbrev Inv-loop : tie.InvT-loop

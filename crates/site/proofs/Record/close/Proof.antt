@@ -1,12 +1,13 @@
-use mathlib.Core.Path.{_≡_, sym, _∙_}
+use mathlib.Core.Path.{_≡_}
 use mathlib.Core.Bool.{true, _&&_}
 use borrow.Author.Needs.{needs}
-use borrow.Author.Tests.{not-true, not-false}
 use Rattle.meaning.specs.Blocks.{World, sizesFit}
-use Rattle.meaning.specs.Record.{Rec, recFits, contentsFit, inState}
+use Rattle.meaning.specs.Record.{Rec, recFits, contentsFit}
 use Rattle.closing.proofs.Calls.{file-fits}
+use Rattle.early.specs.Stops.{closeStop}
+use Rattle.early.proofs.Laws.{not-stopped}
 use Rattle.site.specs.Views.{view, world}
-use Rattle.site.proofs.Ends.{all-fit, close-1, close-13, close-14, close-told}
+use Rattle.site.proofs.Ends.{close-asked, stopped-by, close-early, close-told}
 use Rattle.site.proofs.Record.close.Statement.{statement}
 use Rattle.site.proofs.Record.close.Tie as tie
 
@@ -18,53 +19,43 @@ abbrev lent : tie.Start → World
 lent a = world (a .args .near .now) (a .args .far .now) (a .args .slots .now) (a .args .daily .now) (a .args .positions .now) (a .args .indexes .now) (a .args .kinds .now) (a .args .curve .now)
 
 abbrev start : tie.Else1 → tie.Start
-start c = c .before .before .before .before .before .before .before .before .before .before
+start c = c .before .before .before .before .before .before .before .before .before .before .before
 
--- 1 has been asked
-passes : (c : tie.Else1) → (sizesFit (lent (start c)) && (recFits (came (start c)) && contentsFit (came (start c)) (lent (start c)))) ≡ true
-passes c = sym (all-fit (came (start c)) (lent (start c))) ∙ sym (c .before .all-fit .ensures) ∙ not-false _ (c .if1 .left)
+-- 1, 13 and 14 have been asked
+stop : (c : tie.After-close-stop) → c .close-stop .result ≡ closeStop (sizesFit (lent (c .before .before .before .before .before .before .before .before .before .before)) && (recFits (came (c .before .before .before .before .before .before .before .before .before .before)) && contentsFit (came (c .before .before .before .before .before .before .before .before .before .before)) (lent (c .before .before .before .before .before .before .before .before .before .before)))) (came (c .before .before .before .before .before .before .before .before .before .before) .state) (came (c .before .before .before .before .before .before .before .before .before .before) .last)
+stop c = close-asked (came (c .before .before .before .before .before .before .before .before .before .before)) (lent (c .before .before .before .before .before .before .before .before .before .before)) (c .close-stop .result) (c .close-stop .ensures)
 
-all-fit-requires : tie.Need-all-fit-requires
-all-fit-requires c κs = search needs
+passes : (c : tie.Else1) → ((sizesFit (lent (start c)) && (recFits (came (start c)) && contentsFit (came (start c)) (lent (start c)))) ≡ true) × (start c .args .self .state ≡ 1) × (start c .args .self .progress .last ≡ 8)
+passes c = not-stopped (sizesFit (lent (start c)) && (recFits (came (start c)) && contentsFit (came (start c)) (lent (start c)))) (start c .args .self .state) (start c .args .self .progress .last) (c .before .close-stop .result) (stop (c .before)) (c .if1 .left)
+
+close-stop-requires : tie.Need-close-stop-requires
+close-stop-requires c κs = search needs
+
+stopped-state-requires : tie.Need-stopped-state-requires
+stopped-state-requires c κs = search needs
 
 refuse-requires : tie.Need-refuse-requires
 refuse-requires c κs = search needs
 
 returns : tie.Need-returns
 returns c =
-    let a = c .before .before .before .before .before .before .before .before .before .before .before in
-    close-1 (came a) (lent a) (sym (all-fit (came a) (lent a)) ∙ sym (c .before .before .all-fit .ensures) ∙ not-true _ (c .before .if1 .taken)) _ (c .refuse .ensures)
-
-refuse-requires-2 : tie.Need-refuse-requires-2
-refuse-requires-2 c κs = search needs
-
-returns-2 : tie.Need-returns-2
-returns-2 c =
-    let a = c .before .before .before .before .before .before .before .before .before .before .before .before in
-    close-13 (came a) (lent a) (passes (c .before .before)) (c .before .if2 .taken) _ (c .refuse2 .ensures)
-
-refuse-requires-3 : tie.Need-refuse-requires-3
-refuse-requires-3 c κs = search needs
-
-returns-3 : tie.Need-returns-3
-unfolding inState
-returns-3 c =
-    let a = c .before .before .before .before .before .before .before .before .before .before .before .before .before .before in
-    close-14 (came a) (lent a) (passes (c .before .before .before .before)) (c .before .before .before .if2 .left) (c .before .if3 .taken) _ (c .refuse3 .ensures)
+    let a = c .before .before .before .before .before .before .before .before .before .before .before .before .before in
+    close-early (came a) (lent a) (c .before .before .before .close-stop .result) (stop (c .before .before .before)) (c .before .before .if1 .taken) _ (stopped-by (came a) _ _ _ (c .before .stopped-state .ensures) (c .refuse .ensures))
 
 close-file-requires : tie.Need-close-file-requires
-close-file-requires c κs = let a = c .before .before .before .before .before .before .before .before .before .before .before .before .before .before .before .before in file-fits (came a) (lent a) (passes (c .before .before .before .before .before .before)) (c .before .before .before .if3 .left)
+close-file-requires c κs = let e = c .before .before .before in file-fits (came (start e)) (lent (start e)) (passes e .0) (passes e .2)
 
 tell-requires : tie.Need-tell-requires
 tell-requires c κs = search needs
 
 same-length : tie.Need-same-length
-same-length c = let p = c .before .before .before .close-file in search needs
+same-length c = c .before .before .before .close-file .kept .1 .1 .1 .1 .1 .1 .1 .1 .1 .1 .0
 
-returns-4 : tie.Need-returns-4
-returns-4 c =
-    let a = c .before .before .before .before .before .before .before .before .before .before .before .before .before .before .before .before .before .before .before .before in
-    close-told (came a) (lent a) (passes (c .before .before .before .before .before .before .before .before .before .before)) (c .before .before .before .before .before .before .before .before .before .if2 .left) (c .before .before .before .before .before .before .before .if3 .left) _ _ (c .before .before .before .close-file .ensures) _ (c .tell .ensures)
+returns-2 : tie.Need-returns-2
+returns-2 c =
+    let e = c .before .before .before .before .before .before .before in
+    let a = start e in
+    close-told (came a) (lent a) (passes e .0) (passes e .1) (passes e .2) (c .before .before .before .close-file .result) _ (c .before .before .before .close-file .ensures) _ (c .tell .ensures)
 
 pub close-spec : {M : Type 1} → statement M
-close-spec = tie.close (tie.spec all-fit-requires refuse-requires returns refuse-requires-2 returns-2 refuse-requires-3 returns-3 close-file-requires tell-requires same-length returns-4)
+close-spec = tie.close (tie.spec close-stop-requires stopped-state-requires refuse-requires returns close-file-requires tell-requires same-length returns-2)

@@ -2,8 +2,7 @@ use mathlib.Core.Path.{_∙_}
 use borrow.Author.Needs.{needs}
 use borrow.Author.Tests.{eq-eqb, ne-eqb}
 use Rattle.meaning.specs.Record.{inState}
-use Rattle.meaning.specs.Calls.{leaves}
-use Rattle.site.specs.Closes.{answerShown, yearsBeside, handed, closeHeard}
+use Rattle.site.specs.Closes.{answerShown, yearsBeside, handed, stops, closeHeard}
 use Rattle.site.proofs.ending.tell.Statement.{statement}
 use Rattle.site.proofs.ending.tell.Tie as tie
 
@@ -11,7 +10,7 @@ refuse-requires : tie.Need-refuse-requires
 refuse-requires c κs = search needs
 
 returns : tie.Need-returns
-unfolding leaves handed answerShown yearsBeside closeHeard inState
+unfolding stops handed answerShown yearsBeside closeHeard
 returns c = c .refuse .ensures ∙ rw (ne-eqb (c .before .before .args .closing .number) 0 (c .before .if1 .taken))
 
 returns-2 : tie.Need-returns-2

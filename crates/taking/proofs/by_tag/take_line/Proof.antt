@@ -4,25 +4,31 @@ use native.Mathlib.Omega.{arith}
 use borrow.Author.Needs.{needs}
 use Rattle.meaning.specs.Line.{Tag, S, C, X, D, P, B, R, E, rank}
 use Rattle.meaning.specs.Refusals.{isIllegible}
+use Rattle.intake.specs.Reads.{knownTag}
+use Rattle.intake.proofs.Tags.{told-illegible}
 use Rattle.judge.specs.Before.{Known}
 use Rattle.taking.specs.Views.{openRec}
 use Rattle.taking.specs.Steps.{lineBlocks}
 use Rattle.taking.proofs.Steps.{answered, step-2, step-3, stay-S, stay-C, stay-X, stay-D, stay-P, stay-B, stay-R, stay-E}
 use Rattle.taking.proofs.Rows.{few-profiles, few-sums}
-use Rattle.taking.proofs.Dispatch.{known, unknown-by}
+use Rattle.taking.proofs.Dispatch.{fields-legible, fields-tag, known, unknown-by}
 use Rattle.taking.proofs.by_tag.take_line.Statement.{statement}
 use Rattle.taking.proofs.by_tag.take_line.Tie as tie
 
 -- 2 has been asked
 legible : (c : tie.Else1) → isIllegible (c .before .before .before .before .before .before .before .args .line .now) ≡ false
-legible c = sym (c .before .is-illegible .ensures) ∙ c .if1 .left
+legible c = fields-legible _ _ (c .before .legible-fields .ensures) (c .if1 .left)
+
+-- the tag is that of the line
+by-rank : (c : tie.After-known-tag) → c .known-tag .result ≡ knownTag (c .before .before .before .before .before .before .before .before .args .line .now)
+by-rank c = fields-tag _ _ _ (c .before .before .legible-fields .ensures) (c .before .if1 .left) (c .known-tag .ensures)
 
 -- the tag is known
 tagged : (c : tie.After-known-tag) (t : Tag) → c .known-tag .result ≡ rank t → (rank t ≡ 0 → ⊥) → Known t (c .before .before .before .before .before .before .before .before .args .line .now)
-tagged c t e h = known t (c .before .before .before .before .before .before .before .before .args .line .now) (c .known-tag .result) (legible (c .before)) (c .known-tag .ensures) e h
+tagged c t e h = known t (c .before .before .before .before .before .before .before .before .args .line .now) (c .known-tag .result) (legible (c .before)) (by-rank c) e h
 
-is-illegible-requires : tie.Need-is-illegible-requires
-is-illegible-requires c κs = search needs
+legible-fields-requires : tie.Need-legible-fields-requires
+legible-fields-requires c κs = search needs
 
 answer-requires : tie.Need-answer-requires
 answer-requires c κs = search needs
@@ -32,7 +38,7 @@ returns c =
     let a = c .before .before .before .before .before .before .before .before .args in
     let s = openRec (a .count) (a .progress) in
     let w = lineBlocks (a .near .now) (a .far .now) (a .slots .now) (a .daily .now) in
-    answered (a .count) w (c .answer .result) _ _ (c .answer .ensures) ∙ step-2 s (a .line .now) w (sym (c .before .before .is-illegible .ensures) ∙ c .before .if1 .taken)
+    answered (a .count) w (c .answer .result) _ _ (c .answer .ensures) ∙ step-2 s (a .line .now) w (told-illegible (a .line .now) (sym (c .before .before .legible-fields .ensures) ∙ c .before .if1 .taken))
 
 known-tag-requires : tie.Need-known-tag-requires
 known-tag-requires c κs = search needs
@@ -138,7 +144,7 @@ returns-10 c =
     let w = lineBlocks (a .near .now) (a .far .now) (a .slots .now) (a .daily .now) in
     let r = c .before .match .rest in
     answered (a .count) w (c .answer2 .result) _ _ (c .answer2 .ensures)
-    ∙ step-3 s (a .line .now) w (legible (k .before)) (unknown-by (a .line .now) (k .known-tag .result) (k .known-tag .ensures) (r .0 .0 .0 .0 .0 .0 .0 .1) (r .0 .0 .0 .0 .0 .0 .1) (r .0 .0 .0 .0 .0 .1) (r .0 .0 .0 .0 .1) (r .0 .0 .0 .1) (r .0 .0 .1) (r .0 .1) (r .1))
+    ∙ step-3 s (a .line .now) w (legible (k .before)) (unknown-by (a .line .now) (k .known-tag .result) (by-rank k) (r .0 .0 .0 .0 .0 .0 .0 .1) (r .0 .0 .0 .0 .0 .0 .1) (r .0 .0 .0 .0 .0 .1) (r .0 .0 .0 .0 .1) (r .0 .0 .0 .1) (r .0 .0 .1) (r .0 .1) (r .1))
 
 pub take-line-spec : {M : Type 1} → statement M
-take-line-spec = tie.close (tie.spec is-illegible-requires answer-requires returns known-tag-requires site-line-requires points-line-requires reading-line-requires daily-line-requires profiles-line-requires break-line-requires rate-line-requires end-line-requires answer-requires-2 returns-2 same-length same-length-2 returns-3 returns-4 same-length-3 returns-5 same-length-4 returns-6 returns-7 returns-8 returns-9 returns-10)
+take-line-spec = tie.close (tie.spec legible-fields-requires answer-requires returns known-tag-requires site-line-requires points-line-requires reading-line-requires daily-line-requires profiles-line-requires break-line-requires rate-line-requires end-line-requires answer-requires-2 returns-2 same-length same-length-2 returns-3 returns-4 same-length-3 returns-5 same-length-4 returns-6 returns-7 returns-8 returns-9 returns-10)

@@ -1,0 +1,3 @@
+pub mod Run
+pub mod Parts
+pub mod Promise

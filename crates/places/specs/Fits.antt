@@ -1,0 +1,33 @@
+-- What is known of the lists once 1, 14 and 15 to 17 have passed, and what a walk over places promises.
+use mathlib.Core.Path.{_≡_}
+use mathlib.Core.List.{List}
+use Prim.Native.Nat.{ℕ, _≤_, _<_}
+use lib.ListN.{length, getD}
+use lib.Seq.{sets}
+use Rattle.note.specs.Peaks.{peakDays}
+use Rattle.meaning.specs.Points.{Place}
+use Rattle.meaning.specs.Blocks.{slotsSize}
+use Rattle.years.specs.Fits.{AtMost}
+use Rattle.donors.specs.declared.Basis.{Basis}
+use Rattle.donors.specs.Fits.{PointsFit, CasFit}
+use Rattle.tallies.specs.declared.Tally.{Tally}
+use Rattle.tallies.specs.Tallies.{tallyOf, entriesOf}
+use Rattle.tallies.specs.Fits.{TallyFits}
+use Rattle.places.specs.Places.{Held}
+
+pub record HeldFits (b : Basis) (l : Held) : Type 0 where
+  pub points : PointsFit (b .al) (l .near) (l .far)
+  pub slots : length (l .slots) ≡ slotsSize
+  pub energies : AtMost 1000000000000 (l .energies)
+  pub totals : AtMost 13815826560 (l .totals)
+  pub cas : CasFit (b .count) (l .cas)
+
+-- some places were entered from place `at` of the curve on
+pub record Entered (n at : ℕ) (qs : List Place) (before after : List ℕ) (t : Tally) : Type 0 where
+  pub tally : t ≡ tallyOf qs
+  pub fits : TallyFits n t
+  pub curve : after ≡ sets before at (entriesOf qs)
+
+pub record PeakDayIs (y j r : ℕ) : Type 0 where
+  pub is : r ≡ getD (peakDays y) j 0
+  pub fits : r < 152

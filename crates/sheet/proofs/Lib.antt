@@ -1,0 +1,4 @@
+pub mod Rows
+pub mod Years
+pub mod Texts
+pub mod Ends

@@ -1,0 +1,12 @@
+// The end of a run, and the text of its sheet.
+mod ending; // at the input's end: a last line, then the close
+mod printing; // the sheet's bytes
+
+pub use ending::finish;
+pub use printing::text;
+
+// The first bytes are a sheet's text.
+pub struct Printed {
+    pub bytes: [u8; 546],
+    pub length: usize,
+}
