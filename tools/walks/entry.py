@@ -108,10 +108,10 @@ def main():
         return r
     κs=tup(['κ'+sub(k) for k in range(nl)]); qs=tup(['q'+sub(k) for k in range(nl)])
     # plain values that a call is passed: (kind, denotation, proof)
-    def plainR(k): return {'usize':'usize','bool':'bool'}.get(k, '%s.the-row'%k)
-    def plainV(k,x): return {'usize':'vint w64 (%s) ∷ []'%x,'bool':'vbool (%s) ∷ []'%x}.get(k,'LL.vals %s.the-type %s′.the-laws (%s)'%(k,k,x))
+    def plainR(k): return {'usize':'usize','u64':'u64','bool':'bool'}.get(k, '%s.the-row'%k)
+    def plainV(k,x): return {'usize':'vint w64 (%s) ∷ []'%x,'u64':'vint w64 (%s) ∷ []'%x,'bool':'vbool (%s) ∷ []'%x}.get(k,'LL.vals %s.the-type %s′.the-laws (%s)'%(k,k,x))
     def owned(k,x,pf):
-        if k=='usize': return 'owned ! usize (Is usize) (uint-makes 𝓤 H A W w64) (%s) _ (refl, %s) $'%(x,pf)
+        if k in ('usize','u64'): return 'owned ! %s (Is %s) (uint-makes 𝓤 H A W w64) (%s) _ (refl, %s) $'%(k,k,x,pf)
         if k=='bool': return 'owned ! bool (Is bool) (bool-makes 𝓤 H A W) (%s) _ refl $'%x
         return 'owned ! %s.the-row (Is %s.the-row) (LL.makes %s.the-type %s′.the-plain 𝓤 H A) (%s) _ %s $'%(k,k,k,k,x,pf)
     # ------------------------------------------------------------ head
@@ -177,12 +177,13 @@ def main():
         b('  -- `%s`: what it is passed, and that the caller has what it asks'%c['fn'])
         b('  abbrev to-%s : %s%s 𝓤 H A mem run .Ghost'%(c['al'],(bd+' → ') if bd else '',c['Name']))
         b('  to-%s%s = ((%s, %s, tt, %s, %s), tt)'%(c['al'],bn,cκ,cq,ca,cv)); b('')
-        need=['‵ (flft %s %s)'%(kap(x[1]),qq(x[1])) for x in cl]+['‵ '+Own(x[1]) for x in crefs]
-        lab=[tk_of(x[1]) for x in cl]+['o:'+x[1] for x in crefs]
+        need=['‵ (flft %s %s)'%(kap(x[1]),qq(x[1])) for x in cl]+['‵ '+Own(x[1]) for x in crefs] or ['‵ ftrue']
+        lab=[tk_of(x[1]) for x in cl]+['o:'+x[1] for x in crefs] or ['none']
         pf=' '.join('(%s : %s)'%z for z in c.get('proofs',[])); pn=''.join(' '+z[0] for z in c.get('proofs',[]))
         c['pn']=pn
         b('  goes-%s : %s%sent 𝓤 (⋆ 𝓤 H A (%s ∷ [])) (%s 𝓤 H A mem run .pre (to-%s%s))'%(c['al'],(bd+' → ') if bd else '',(pf+' → ') if pf else '',' ∷ '.join(need),c['Name'],c['al'],bn))
         x=Ctx(); x.l=list(lab); s=['qed W (%s ∷ []) ∵'%' ∷ '.join(need)]
+        if not crefs: s.append(x.drop())
         s.append('nothing ! $'); x.push('acc')
         for g in reversed(c['args']):
             if g[0]=='ref': s.append(x.move(['o:'+g[1],'acc']))
@@ -328,6 +329,7 @@ def main():
                 else:
                     k=[z for z in x.l if re.match(r'c\d+:'+re.escape(g[1])+'$',z)][0]; labs.append(k)
             w.append('\n        -- `%s`\n       '%c['fn'])
+            if not labs: w.append('nothing ! $'); x.push('none'); labs=['none']
             mvs=x.move(labs)
             w.append(mvs)
             if len(labs)>1: w.append('group ! %d $'%len(labs))
@@ -342,8 +344,8 @@ def main():
                 ops='and-then ! (%s) (%s)'%(l_,ops)
             w.append('calls-at ! fm (%s 𝓤 H A mem run) known-%s %s (%s) (λ w%s.\n       '%(c['Name'],c['al'],tosp,ops,n)); npar+=1
             x.pop(); x.push('post')
-            Rt='%s.the-row'%c['res'] if c['res']!='unit' else 'unit'; Rd=T[c['res']]['decl'] if c['res']!='unit' else 'Unit {0}'
-            tk=' ⊛ '.join('‵ (flft %s %s)'%(kap(g[1]),qq(g[1])) for g in cl)+' ⊛ ‵ ftrue'
+            Rt='%s.the-row'%c['res'] if c['res'] in T else c['res']; Rd=T[c['res']]['decl'] if c['res'] in T else {'unit':'Unit {0}','bool':'Bool'}[c['res']]
+            tk=' ⊛ '.join(['‵ (flft %s %s)'%(kap(g[1]),qq(g[1])) for g in cl]+['‵ ftrue'])
             ens='ensured 𝓤 H A %s.ended (%s.clauses 𝓤 H A mem run) %s %s tt r%s'%(c['al'],c['al'],c['cκ'],c['ca-at'] if 'ca-at' in c else c['ca'],n)
             w.append('use1 W (later (some (λ (r%s : %s). ((%s) ⊛ ‵ (%s .own r%s (w%s ∷ []))) ⊛ raw (%s)))) (id⊢ 𝓤 _) $ await ! tt $ pick ! (λ r%s.\n       '%(n,Rd,tk,Rt,n,n,ens,n)); npar+=1
             x.pop(); x.push('tr','ens')   # after split
@@ -372,10 +374,12 @@ def main():
             w.append('\n       '); w.append(x.move(['lasts'])); w.append(x.drop())
             w.append(x.move(['tr'])); w.append('split ! $'); x.pop(); x.push('tk','res'); w.append(x.move(['res']))
             w.append('peeks ! %s (Is (%s)) (shows 𝓤 H A (%s)) r%s (w%s ∷ []) (λ is%s.'%(('(%s)'%Rt if ' ' in Rt else Rt),Rt,Rt,n,n,n)); npar+=1
-            ty='(nothing-lawful 𝓤 H A W .typed r%s _ is%s .0)'%(n,n) if c['res']=='unit' else '(LL.lawful %s.the-type %s′.the-laws 𝓤 H A W .typed r%s _ is%s .0)'%(c['res'],c['res'],n,n)
+            ty='(%s-lawful 𝓤 H A W .typed r%s _ is%s .0)'%({'unit':'nothing','bool':'bool'}[c['res']],n,n) if c['res'] not in T else '(LL.lawful %s.the-type %s′.the-laws 𝓤 H A W .typed r%s _ is%s .0)'%(c['res'],c['res'],n,n)
             w.append('land ! (from ! (stop !)) (init ! %d refl %s) $'%(x.i(d),ty)); w.append(x.drop())
             k=int(d[1:]); resof[d]=c
             if c['res']=='unit': val[k]='w%s'%n
+            elif c['res']=='bool':
+                w.append('rewrite ! %d (λ (u : Val). ‵ (fat fullShare tyBool l%s 0 u)) (ap only (bool-tells r%s _ is%s)) refl $'%(x.i(d),sub(k),n,n)); val[k]='(vbool r%s)'%n
             elif c.get('apart'):
                 w.append('rewrite ! %d (λ (u : Val). ‵ (fat fullShare %s l%s 0 u)) (ap only (LL.tells %s.the-type %s′.the-laws r%s _ is%s)) refl $'%(x.i(d),lty[k],sub(k),c['res'],c['res'],n,n)); val[k]='(LL.val %s.the-type %s′.the-laws r%s)'%(c['res'],c['res'],n)
             else: val[k]='w%s'%n
@@ -386,10 +390,10 @@ def main():
             w.append(x.drop()); w.append('\n       ')
             if D.get('cuts'):
                 pj={g[1]:'(ms%s%s .0)'%(n,' .1'*k2) for k2,g in enumerate(c['args']) if g[0]=='ref' and kind[g[1]][1]=='mut'}
-                Rd2=T[c['res']]['decl'] if c['res']!='unit' else 'Unit {0}'
+                Rd2=Rd
                 bound.append(('r'+n,Rd2,'r'+n)); bound.append(('w'+n,'Val','w'+n))
                 for pn_ in pj: bound.append((fin[pn_],'List %s'%elemD(kind[pn_][2]),pj[pn_]))
-                if c['res']!='unit': bound.append(('is'+n,'Is %s.the-row r%s (w%s ∷ [])'%(c['res'],n,n),'is'+n))
+                if c['res']!='unit': bound.append(('is'+n,'Is %s r%s (w%s ∷ [])'%(Rt,n,n),'is'+n))
                 ph=c['fact'].replace('{r}','r'+n)
                 for pn_ in pj: ph=ph.replace('{%s}'%pn_,fin[pn_])
                 bound.append(('e'+n,ph,'e'+n))
@@ -462,7 +466,7 @@ def main():
       ('prog.Memory','Memory'),('prog.Routine','Routine'),('prog.Wp','Heap Env Calls Loops WpFn Tables'),('ghost.Atoms','Atoms'),('contract.Monad','Fun fact'),('contract.Running','givenOf tables tablesOf'),
       ('types.Kit','Given Item Sq prop frees runs atRet ‵ raw some later _⊛_ ⋆ _$_ _∵_ ! qed by move keep drop group use1 split join pick rewrite fsplit fjoin feqL suffices frame await done'),
       ('types.Run','look init stop hop fld from load addr lit of-opd and-then no-more assigns land returns enter alloc1 alloc0 params1 pass1 pass0 free1 free0'),('types.Part','agg whole sub look-in'),('sound.WpLaws','FmC fmOf WpFn-mono'),
-      ('denote.RattleType','owns'),('denote.Laws','Is shows'),('denote.Memory','pointee'),('denote.Plain','uint-makes bool-makes nothing-lawful'),('denote.Builtin','u8 u16 u32 u64 usize bool unit'),('denote.Ref','RefT'),
+      ('denote.RattleType','owns'),('denote.Laws','Is shows'),('denote.Memory','pointee'),('denote.Plain','uint-makes bool-makes nothing-lawful bool-lawful bool-tells'),('denote.Builtin','u8 u16 u32 u64 usize bool unit'),('denote.Ref','RefT'),
       ('denote.Slice','sliceTy sliceVal ShrSlice MutSlice Room finally slice-vals shr-slice-tells mut-slice-tells shr-slice-copy'),('denote.Signature','plain'),('denote.Steps','only owned peeks heard nothing'),
       ('denote.Triple.Entry','onEntry'),('denote.Triple.Spec','Meets tripleOf'),('denote.Triple.Statement','Contract Triple'),('denote.Triple.Call','calls-at'),('denote.Triple.Clauses','ensured lasts'),('denote.Triple.Table','entered cited'),
       ('denote.Triple.Walked','says Stays gave-slice stay-none stay-none-slice walkOf goes-gave-slice goes-none goes-none-slice Walks ends-at walked walk-meets'),('denote.Exit','yes')]

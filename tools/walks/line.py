@@ -1,31 +1,42 @@
 OWN='Rattle.site.proofs.'; SP='Rattle.site.specs.'
-W0='world (now near) (now far) (now slots) (now daily) rs c'
+FACT='EachLent (length (readings .now)) (length (curve .now)) (λ rs c. hearsBack {r} (world {near} {far} {slots} {daily} (seen (set rs ({r} .slot) ({r} .reading))) c) ≡ lineOf (view self) (line .now) (world (near .now) (far .now) (slots .now) (daily .now) (seen rs) c))'
+def at_exit(t):
+    t=t.replace('{r}','r')
+    for p in ('near','far','slots','daily'): t=t.replace('{%s}'%p,p+'′')
+    return t
+def field(k): return 'LL.owed S.the-type S′.the-laws r _ is'+' .1'*k+' .0'
+OF='LL.owed T.the-type T′.the-laws self _ self-is'
 D=dict(
   crate='site', fn='Record::line', cwd='.',
   params=[('self','value','T'),('line','shr','u8'),('near','mut','u32'),('far','mut','u32'),('slots','mut','u16'),('daily','mut','u32'),('readings','mut','R'),('curve','shr','u64')],
   types=dict(
     T=dict(name='Record',mod=OWN+'Record',decl='Record',**{'decl-mod':SP+'declared.Record'}),
-    S=dict(name='Step',mod=OWN+'Step',decl='Step',**{'decl-mod':SP+'declared.Step'}),
+    S=dict(name='Heard',mod='Rattle.hearing.proofs.Heard',decl='Heard',**{'decl-mod':'Rattle.hearing.specs.declared.Heard'}),
+    G=dict(name='Progress',mod='Rattle.taking.proofs.Progress',decl='Progress',**{'decl-mod':'Rattle.taking.specs.declared.Progress'}),
     O=dict(name='Opened',mod=OWN+'Opened',decl='Opened',**{'decl-mod':SP+'declared.Opened'}),
     R=dict(name='Reading',mod='Rattle.readings.proofs.Reading',decl='Reading',**{'decl-mod':'Rattle.readings.specs.declared.Reading'}),
   ),
-  imports=['use Rattle.site.specs.Calls.{EachLent, world, handsBack, lineOf}'],
+  imports=['use Rattle.meaning.specs.Blocks.{World}','use Rattle.meaning.specs.Calls.{lineOf}','use Rattle.readings.specs.Readings.{seen}','use Rattle.readings.specs.Columns.{world}','use Rattle.readings.specs.Lent.{EachLent}','use Rattle.hearing.specs.Heard.{hearsBack}','use Rattle.site.specs.Views.{view, handsBack}'],
   calls=[
-    dict(fn='take_line',al='take-line',Name='TakeLine',n='',mod=OWN+'take_line',key='#site·take-line',
-      args=[('plain','T','self','self-is'),('ref','line'),('ref','near'),('ref','far'),('ref','slots'),('ref','daily'),('plain','usize','length (readings .now)','room-readings .0'),('plain','usize','length (curve .now)','room-curve .0')],
-      res='S',apart=True,
-      fact='EachLent (length (readings .now)) (length (curve .now)) (λ rs c. handsBack ({r} .opened) (world {near} {far} {slots} {daily} (set rs ({r} .slot) ({r} .reading)) c) ≡ lineOf self (line .now) (world (near .now) (far .now) (slots .now) (daily .now) rs c))'),
+    dict(fn='hear_line',al='hear-line',Name='HearLine',n='',mod='Rattle.hearing.proofs.hear_line',key='#hearing·hear-line',
+      args=[('plain','u64','self .state',OF+' .0 .1'),('plain','u64','self .count',OF+' .1 .0 .1'),('plain','G','self .progress','(%s .1 .1 .0)'%OF),('ref','line'),('ref','near'),('ref','far'),('ref','slots'),('ref','daily'),('plain','usize','length (readings .now)','room-readings .0'),('plain','usize','length (curve .now)','room-curve .0')],
+      res='S',apart=True,fact=FACT),
     dict(fn='put',al='put',Name='PutR',n='₁',mod='Rattle.readings.proofs.put',key='#readings·put',
-      binds=[('r','Step'),('w','Val')],proofs=[('is','Is S.the-row r (w ∷ [])')],
-      args=[('ref','readings'),('plain','usize','r .slot','LL.owed S.the-type S′.the-laws r _ is .0 .1'),('plain','R','r .reading','(LL.owed S.the-type S′.the-laws r _ is .1 .0)')],
+      binds=[('r','Heard'),('w','Val')],proofs=[('is','Is S.the-row r (w ∷ [])')],
+      args=[('ref','readings'),('plain','usize','r .slot',field(0)+' .1'),('plain','R','r .reading','(%s)'%field(1))],
       res='unit',fact='{readings} ≡ set (readings .now) (r .slot) (r .reading)',
       **{'bind-terms':['r','w'],'proof-terms':['is']}),
+    dict(fn='line_answer',al='line-answer',Name='LineAnswer',n='₂',mod=OWN+'packing.line_answer',key='#site·packing·line-answer',
+      binds=[('r','Heard'),('w','Val')],proofs=[('is','Is S.the-row r (w ∷ [])')],
+      args=[('plain','S','r','(subst (λ (vs : List Val). Is S.the-row r vs) (LL.tells S.the-type S′.the-laws r _ is) is)')],
+      res='O',fact='(x : World) → handsBack {r} x ≡ hearsBack r x',
+      **{'bind-terms':['r','w'],'proof-terms':['is']}),
   ],
-  result=dict(alias='O',denot='(r .opened)',value='(LL.val O.the-type O′.the-laws (r .opened))',
-    binds=[('r','Step'),('w','Val')],**{'bind-terms':['r','w'],
-    'facts':[('is','Is S.the-row r (w ∷ [])'),('e','EachLent (length (readings .now)) (length (curve .now)) (λ rs c. handsBack (r .opened) (world near′ far′ slots′ daily′ (set rs (r .slot) (r .reading)) c) ≡ lineOf self (line .now) (world (near .now) (far .now) (slots .now) (daily .now) rs c))'),('e₁','readings′ ≡ set (readings .now) (r .slot) (r .reading)')],
-    'fact-terms':['is','e','e₁'],
-    'is':'(LL.owed S.the-type S′.the-laws r _ is .1 .1 .0)','typed':'(LL.lawful O.the-type O′.the-laws 𝓤 H A W .typed (r .opened) _ (LL.owed S.the-type S′.the-laws r _ is .1 .1 .0) .0)',
-    'equation':'(ap (λ (z : List Reading). handsBack (r .opened) (world near′ far′ slots′ daily′ z (curve .now))) e₁ ∙ e (readings .now) (curve .now) refl refl)'}),
+  result=dict(alias='O',denot='r₂',value='w₂',
+    binds=[('r','Heard'),('r₂','Opened'),('w₂','Val')],**{'bind-terms':['r','r₂','w₂'],
+    'facts':[('is₂','Is O.the-row r₂ (w₂ ∷ [])'),('e',at_exit(FACT)),('e₁','readings′ ≡ set (readings .now) (r .slot) (r .reading)'),('e₂','((x : World) → handsBack r₂ x ≡ hearsBack r x)')],
+    'fact-terms':['is₂','e','e₁','e₂'],
+    'is':'is₂','typed':'',
+    'equation':'(e₂ (world near′ far′ slots′ daily′ (seen readings′) (curve .now)) ∙ ap (λ (z : List Reading). hearsBack r (world near′ far′ slots′ daily′ (seen z) (curve .now))) e₁ ∙ e (readings .now) (curve .now) refl refl)'}),
   **{'left-args':'','cuts':True},
 )

@@ -14,7 +14,7 @@ use Rattle.calendar.specs.declared.Years.{Years}
 use Rattle.meaning.specs.Filing.{Reading, reading}
 use Rattle.meaning.specs.Line.{kindOfLetter}
 use Rattle.meaning.specs.Record.{readingFits, readingsFit}
-use Rattle.axis_blocks.specs.Axis.{readingsIn}
+use Rattle.readings.specs.Columns.{readingIn, readingsIn}
 
 -- the readings fit, the first at or after position p and with an index of at least x
 unfoldable pub chain : Years → ℕ → ℕ → List Reading → Bool
@@ -53,28 +53,25 @@ readings-chain axis (r ∷ rs) =
     assoc false b c = refl
 
 -- ---- the columns that are left
-abbrev pub readingAt : List ℕ → List ℕ → List ℕ → ℕ → Reading
-readingAt ps xs ks i = reading (getD ps i 0) (getD xs i 0) (kindOfLetter (getD ks i 69))
-
 -- the readings from the k-th on
 unfoldable pub left : Years → List ℕ → List ℕ → List ℕ → ℕ → ℕ → ℕ → ℕ → Bool
-left axis ps xs ks n p x k = chain axis p x (tab (n - k) k (readingAt ps xs ks))
+left axis ps xs ks n p x k = chain axis p x (tab (n - k) k (readingIn ps xs ks))
 
 module _ (axis : Years) (ps xs ks : List ℕ) (n : ℕ) where
   pub left-start : readingsFit axis (readingsIn ps xs ks n) ≡ left axis ps xs ks n 0 0 0
   unfolding readingsIn left
-  left-start = let e : n - 0 ≡ n = omega arith in rw e (readings-chain axis (tab n 0 (readingAt ps xs ks)))
+  left-start = let e : n - 0 ≡ n = omega arith in rw e (readings-chain axis (tab n 0 (readingIn ps xs ks)))
 
   module _ (p x k : ℕ) where
     pub left-end : n ≤ k → left axis ps xs ks n p x k ≡ true
     unfolding left chain
-    left-end h = rw (tab-end n k (readingAt ps xs ks) h)
+    left-end h = rw (tab-end n k (readingIn ps xs ks) h)
 
     left-on : k < n → k < length ks → left axis ps xs ks n p x k
         ≡ ((readingFits axis (reading (getD ps k 0) (getD xs k 0) (kindOfLetter (getD ks k 0))) && (leb p (getD ps k 0) && leb x (getD xs k 0)))
         && left axis ps xs ks n (getD ps k 0 + 1) (getD xs k 0) (k + 1))
     unfolding left chain
-    left-on h l = rw (tab-on n k (readingAt ps xs ks) h, getD-within ks k 69 0 l) refl
+    left-on h l = rw (tab-on n k (readingIn ps xs ks) h, getD-within ks k 69 0 l) refl
 
     pub left-unfit : k < n → k < length ks → readingFits axis (reading (getD ps k 0) (getD xs k 0) (kindOfLetter (getD ks k 0))) ≡ false
         → false ≡ left axis ps xs ks n p x k

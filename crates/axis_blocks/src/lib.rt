@@ -5,7 +5,8 @@ ghost use lib.ListN.{length};
 ghost use Rattle.meaning.specs.Filing.{reading};
 ghost use Rattle.meaning.specs.Line.{kindOfLetter, isKind};
 ghost use Rattle.meaning.specs.Record.{dailyFits, readingFits, readingsFit};
-ghost use Rattle.axis_blocks.specs.Axis.{placedAt, dayFits, readingsIn};
+ghost use Rattle.readings.specs.Columns.{readingsIn};
+ghost use Rattle.axis_blocks.specs.Axis.{placedAt, dayFits};
 use calendar::Years;
 
 // The places of a year in the daily block.

@@ -1,3 +1,2 @@
-// What is written into the lent blocks: a fresh value at every place, and the places that a line names.
-pub mod fills; // a block filled with one value
-pub mod stores; // the values of one line
+// The values of one line, written into the places of a lent block that the line names.
+pub mod stores; // by tag: C, P and D

@@ -54,21 +54,3 @@ pub fn put_sum(daily: &mut [u32], position: usize, sum: u64)
 {
     daily[position] = sum as u32;
 }
-
-// X: one reading, in three columns.
-pub fn put_reading(
-    positions: &mut [u32],
-    indexes: &mut [u64],
-    kinds: &mut [u8],
-    n: usize,
-    position: usize,
-    index: u64,
-    kind: u8,
-)
-    requires { ⌜ ((n < length (now positions)) × ((n < length (now indexes)) × (n < length (now kinds)))) × (position < 4392) ⌝ }
-    ensures { λ _. ⌜ (now (positions .exit) ≡ set (now (positions .entry)) n position) × ((now (indexes .exit) ≡ set (now (indexes .entry)) n index) × (now (kinds .exit) ≡ set (now (kinds .entry)) n kind)) ⌝ }
-{
-    positions[n] = position as u32;
-    indexes[n] = index;
-    kinds[n] = kind;
-}

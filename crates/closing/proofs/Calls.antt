@@ -19,11 +19,12 @@ use Rattle.meaning.specs.Closing.{Lack, unended, partial, lacking, zeroTotal, t
 use Rattle.meaning.specs.Blocks.{World, sizesFit}
 use Rattle.meaning.specs.Record.{Rec, inState, isTaken, siteOfRec, historyOfSite, historyOfRec, axisOfRec, siteFits, lastsFit, recFits, pointsFit, slotsFit, dailyFits, contentsFit, filingHeld, filingOf}
 use Rattle.meaning.specs.Calls.{refused, reports, out, withCurve, closed, closeOf}
-use Rattle.meaning.proofs.Bound.Counted.{some-point}
+use Rattle.demands.proofs.Bound.Counted.{some-point}
+use Rattle.readings.specs.Columns.{Columned}
 use Rattle.closing.specs.declared.Closing.{Closing}
 use Rattle.closing.specs.Rows.{refusedBy}
 use Rattle.closing.specs.Closes.{FileFits, Handed, handsBack, reportShown, handedBy, closingMeant}
-use Rattle.closing.proofs.Held.{known}
+use Rattle.closing.proofs.Held.{site-words}
 use Rattle.closing.proofs.Years.{YearsReported, years-reported}
 
 -- ---- a record whose E was taken
@@ -39,15 +40,24 @@ pub filing-is : (s : Rec) (w : World) → s .last ≡ 8 → filingOf s w ≡ fil
 unfolding filingOf
 filing-is s w e = ap₂ (λ (t : Site) (b : Bool). filingHeld t (s .readings) (s .tallies) b w) (site-is s e) (eq-eqb (s .last) 8 e)
 
+-- what S gave
+site-given : (s : Rec) → T (recFits s) → s .last ≡ 8 → T (siteFits true (s .site)) × T (not (isTooSoon (s .site .al) (s .site .filiere)))
+unfolding recFits
+site-given s r e =
+    let a = and-parts (leb (s .state) 3 && (leb (s .count) 9999 && leb (s .last) 8)) _ r in
+    let b = and-parts (siteFits (isTaken s) (s .site) && not (isTooSoon (s .site .al) (s .site .filiere))) _ (a .1) in
+    let c = and-parts (siteFits (isTaken s) (s .site)) _ (b .0) in
+    (rw (taken s e) at (c .0), c .1)
+
 -- what the close of its file asks for
-pub file-fits : (s : Rec) (w : World) → (sizesFit w && (recFits s && contentsFit s w)) ≡ true → s .last ≡ 8 → FileFits (s .site) (s .readings) (s .tallies) w
+pub file-fits : (s : Rec) (w : World) {ps xs ks : List ℕ} → Columned w (s .readings) ps xs ks → (sizesFit w && (recFits s && contentsFit s w)) ≡ true → s .last ≡ 8
+    → FileFits (s .site) (s .readings) (s .tallies) w ps xs ks
 unfolding recFits contentsFit historyOfRec axisOfRec
-file-fits s w q e =
+file-fits s w cols q e =
     let a = and-parts (sizesFit w) _ (subst T (sym q) tt) in
     let b = and-parts (recFits s) (contentsFit s w) (a .1) in
     let r = and-parts (leb (s .state) 3 && (leb (s .count) 9999 && leb (s .last) 8)) _ (b .0) in
     let t = and-parts (siteFits (isTaken s) (s .site) && not (isTooSoon (s .site .al) (s .site .filiere))) _ (r .1) in
-    let u = and-parts (siteFits (isTaken s) (s .site)) _ (t .0) in
     let n = and-parts (leb (s .readings) mostReadings && leb (s .lastIndex) mostIndex) _ (t .1) in
     let m = and-parts (leb (s .readings) mostReadings) _ (n .0) in
     let k = and-parts (lastsFit (historyOfSite (siteOfRec s)) (s .lasts)) _ (n .1) in
@@ -58,8 +68,8 @@ file-fits s w q e =
     let d = and-parts (slotsFit h (w .slots) && dailyFits (axisYears h) (w .daily)) _ (f .1) in
     let y = and-parts (slotsFit h (w .slots)) _ (d .0) in
     record {
-      site = rw (taken s e) at (u .0);
-      late = u .1;
+      site = site-given s (b .0) e .0;
+      late = site-given s (b .0) e .1;
       few = lib.Dec.leb→le (s .readings) mostReadings (m .0);
       tallies = rw (site-is s e) at (k .1);
       sizes = a .0;
@@ -68,6 +78,7 @@ file-fits s w q e =
       slots = y .0;
       daily = y .1;
       readings = d .1;
+      columns = cols;
     }
 
 -- ---- 1 and 13 passed
@@ -130,8 +141,14 @@ module _ (s : Rec) (w : World) (fits : (sizesFit w && (recFits s && contentsFit 
   unfolding closingMeant
   handed o q = back ∙ ap (λ (G : Filing). handedBy (closingRefusal G) G (w .curve)) (sym (filing-is s w e)) ∙ ap (λ (x : Option Lack). handedBy x F (w .curve)) q
 
+  site-known : T (isKnown (s .site .al) (s .site .filiere))
+  site-known =
+      let a = and-parts (sizesFit w) _ (subst T (sym fits) tt) in
+      let b = and-parts (recFits s) (contentsFit s w) (a .1) in
+      site-words (s .site) (site-given s (b .0) e .0) .0
+
   is-known : T (isKnown (F .site .al) (F .site .filiere))
-  is-known = rw (filing-is s w e) (unfold filingHeld in (known (file-fits s w fits e)))
+  is-known = rw (filing-is s w e) (unfold filingHeld in site-known)
 
   is-ended : F .ended ≡ true
   unfolding filingOf filingHeld

@@ -46,7 +46,7 @@ use Rattle.closing.specs.Closes.{FileFits}
 use Rattle.marks.proofs.Ten.{at-year}
 
 -- ---- the site
-site-words : (t : Site) → T (siteFits true t) → T (isKnown (t .al) (t .filiere)) × (t .ps ≤ mostPower)
+pub site-words : (t : Site) → T (siteFits true t) → T (isKnown (t .al) (t .filiere)) × (t .ps ≤ mostPower)
 unfolding siteFits isWithin isKnown
 site-words t h =
     let a = and-parts (leb 2021 (t .al) && leb (t .al) 2026) _ h in
@@ -108,10 +108,8 @@ block-sizes w t =
     let f = and-parts (eqb (length (w .far)) pointsSize) _ (n .1) in
     let s = and-parts (eqb (length (w .slots)) slotsSize) _ (f .1) in
     let d = and-parts (eqb (length (w .daily)) dailySize) _ (s .1) in
-    let p = and-parts (eqb (length (w .positions)) readingsSize) _ (d .1) in
-    let i = and-parts (eqb (length (w .indexes)) readingsSize) _ (p .1) in
-    let k = and-parts (eqb (length (w .kinds)) readingsSize) _ (i .1) in
-    (eqb→eq (length (w .slots)) slotsSize (s .0), eqb→eq (length (w .curve)) curveSize (k .1))
+    let r = and-parts (eqb (length (w .readings)) readingsSize) _ (d .1) in
+    (eqb→eq (length (w .slots)) slotsSize (s .0), eqb→eq (length (w .curve)) curveSize (r .1))
 
 -- ---- what an interval is profiled to, whatever the profile value
 energyIn : Origin → ℕ
@@ -132,7 +130,7 @@ unfolding isMark bit
 mark-bit true = refl
 mark-bit false = refl
 
-module _ {t : Site} {n : ℕ} {k : Tallies} {w : World} (fit : FileFits t n k w) where
+module _ {t : Site} {n : ℕ} {k : Tallies} {w : World} {ps xs ks : List ℕ} (fit : FileFits t n k w ps xs ks) where
   abbrev F : Filing
   F = filingHeld t n k true w
 
@@ -157,33 +155,33 @@ module _ {t : Site} {n : ℕ} {k : Tallies} {w : World} (fit : FileFits t n k w)
   in-history j l = among-words h (h .first + j) .1 (omega arith, omega (arith, l))
 
   -- ---- the columns and the blocks
-  pub rise : Rising (w .positions) n
-  rise = columns-rise t n w (fit .few) (fit .sizes) (fit .readings)
+  pub rise : Rising ps n
+  rise = columns-rise t n w (fit .columns) (fit .few) (fit .readings)
 
-  pub climb : Counting (w .indexes) n
-  climb = columns-count t n w (fit .few) (fit .sizes) (fit .readings)
+  pub climb : Counting xs n
+  climb = columns-count t n w (fit .columns) (fit .few) (fit .readings)
 
-  pub kinds-held : n ≤ length (w .kinds)
-  kinds-held = columns-kinds t n w (fit .few) (fit .sizes) (fit .readings)
+  pub kinds-held : n ≤ length ks
+  kinds-held = columns-kinds t n w (fit .columns) (fit .few)
 
   pub daily-size : length (w .daily) ≡ 4392
-  daily-size = columns-daily t n w (fit .few) (fit .sizes) (fit .readings)
+  daily-size = columns-daily w (fit .sizes)
 
   pub curve-size : length (w .curve) ≡ 4400
   curve-size = block-sizes w (fit .sizes) .1
 
   abbrev energies : List ℕ
-  energies = energiesOf (w .positions) (w .indexes) n
+  energies = energiesOf ps xs n
 
   abbrev totals : List ℕ
-  totals = totalsOf (w .positions) (w .daily) n
+  totals = totalsOf ps (w .daily) n
 
   pub lists-fit : ListsFit (t .al) (w .near) (w .far) (w .slots) energies totals (k .rates)
   lists-fit = record {
     points = points-fit (t .al) (w .near) (w .far) (point-fits (historyOfSite t) (t .al - 9) (w .near) (fit .near)) (point-fits (historyOfSite t) (t .al - 14) (w .far) (fit .far));
     slots = block-sizes w (fit .sizes) .0;
-    energies = energies-most t n w (fit .readings);
-    totals = totals-most t n w (fit .readings) rise (fit .daily);
+    energies = energies-most t n w (fit .columns) (fit .readings);
+    totals = totals-most t n w (fit .columns) (fit .readings) rise (fit .daily);
     rates = rates-fit (historyOfSite t) k (fit .tallies);
   }
 
@@ -192,7 +190,7 @@ module _ {t : Site} {n : ℕ} {k : Tallies} {w : World} (fit : FileFits t n k w)
   curves = curveMarks (t .al) h (w .near) (w .far) (k .breaks)
 
   abbrev indexes : List ℕ
-  indexes = indexMarks (w .positions) (w .kinds) n (h .count) (k .breaks)
+  indexes = indexMarks ps ks n (h .count) (k .breaks)
 
   abbrev codes : List ℕ
   codes = caseCodes (isCurve (t .meter)) (h .count) curves indexes
@@ -216,9 +214,9 @@ module _ {t : Site} {n : ℕ} {k : Tallies} {w : World} (fit : FileFits t n k w)
   index-marks : (j : ℕ) → j < h .count → isMark (getD indexes j 0) ≡ indexValid F (h .first + j)
   unfolding indexMarks indexMarkAt historyOfSite
   index-marks j l =
-      ap isMark (at-year 0 (indexMarkAt (w .positions) (w .kinds) n (k .breaks)) (h .count) j 0 l short)
-      ∙ mark-bit (validIndex (w .positions) (w .kinds) n j (isSet (k .breaks) j))
-      ∙ sym (index-valid-held t n k true w rise (fit .readings) j l)
+      ap isMark (at-year 0 (indexMarkAt ps ks n (k .breaks)) (h .count) j 0 l short)
+      ∙ mark-bit (validIndex ps ks n j (isSet (k .breaks) j))
+      ∙ sym (index-valid-held t n k true w (fit .columns) rise (fit .readings) j l)
 
   pub cases : (j : ℕ) → j < h .count → meantCase (caseOfCode (getD codes j 0)) ≡ caseOf F (h .first + j)
   unfolding historyOf filingHeld
@@ -247,7 +245,7 @@ module _ {t : Site} {n : ℕ} {k : Tallies} {w : World} (fit : FileFits t n k w)
   around j v p l m =
       let y = h .first + j in
       any-profile F (intervalAt F y v) (F .profile y v 0) p (getD energies (positionIn j v) 0) (getD totals (positionIn j v) 0)
-      (rw (at-position j v) at (profiled-year t n k true w (fit .readings) y v 0 (in-history j l) m))
+      (rw (at-position j v) at (profiled-year t n k true w (fit .columns) (fit .readings) y v 0 (in-history j l) m))
     where
       at-position : (i u : ℕ) → positionAt F (h .first + i) u ≡ positionIn i u
       at-position i u = unfold historyOf filingHeld in (position-is F known i u)

@@ -65,7 +65,7 @@ rows-shown F codes present e =
         ap (λ (v : Bool). cond v (row k) noYear) q
         ∙ sym (ap (λ (ys : List Year). getD ys k noYear) (years-tab F) ∙ List·getD-eq-default (tab n 0 shown) noYear {n = k} (omega (arith, length-tab n 0 shown, ltb-false k n q)))
 
-module _ {t : Site} {n : ℕ} {k : Tallies} {w : World} (fit : FileFits t n k w) where
+module _ {t : Site} {n : ℕ} {k : Tallies} {w : World} {ps xs ks : List ℕ} (fit : FileFits t n k w ps xs ks) where
   abbrev F : Filing
   F = filingHeld t n k true w
 
@@ -73,36 +73,36 @@ module _ {t : Site} {n : ℕ} {k : Tallies} {w : World} (fit : FileFits t n k w)
   h = historyYears (t .al) (t .filiere)
 
   abbrev es : List ℕ
-  es = energiesOf (w .positions) (w .indexes) n
+  es = energiesOf ps xs n
 
   abbrev ts : List ℕ
-  ts = totalsOf (w .positions) (w .daily) n
+  ts = totalsOf ps (w .daily) n
 
   abbrev cs : List ℕ
   cs = curveMarks (t .al) h (w .near) (w .far) (k .breaks)
 
   abbrev is : List ℕ
-  is = indexMarks (w .positions) (w .kinds) n (h .count) (k .breaks)
+  is = indexMarks ps ks n (h .count) (k .breaks)
 
-  abbrev xs : List ℕ
-  xs = caseCodes (isCurve (t .meter)) (h .count) cs is
+  abbrev codes : List ℕ
+  codes = caseCodes (isCurve (t .meter)) (h .count) cs is
 
   abbrev found : Filling
-  found = fillingOf (basisOf (t .al) (t .filiere) (t .ps)) (held (w .near) (w .far) (w .slots) es ts cs is (casFrom (h .first) (t .filiere))) xs (k .rates)
+  found = fillingOf (basisOf (t .al) (t .filiere) (t .ps)) (held (w .near) (w .far) (w .slots) es ts cs is (casFrom (h .first) (t .filiere))) codes (k .rates)
 
   module _ (fine : T (not (lacks tooHigh F))) where
-    row-is : (j : ℕ) → j < h .count → rowIn (h .first + j) (getD xs j 0) (getD (found .present) j 0) ≡ yearShown (yearReport F (h .first + j))
+    row-is : (j : ℕ) → j < h .count → rowIn (h .first + j) (getD codes j 0) (getD (found .present) j 0) ≡ yearShown (yearReport F (h .first + j))
     unfolding rowIn yearShown yearReport
     row-is j l =
         ap₂ (λ (c : Case) (p : ℕ). yearRow (h .first + j) (letterOfCase c) p)
         (cases fit j l)
-        (present-is t n k true w es ts cs is xs (means fit) fine j l)
+        (present-is t n k true w es ts cs is codes (means fit) fine j l)
 
-    rows-are : rowsIn h xs (found .present) ≡ yearsShown (reportOf F .years)
+    rows-are : rowsIn h codes (found .present) ≡ yearsShown (reportOf F .years)
     unfolding historyOf filingHeld
-    rows-are = rows-shown F xs (found .present) row-is
+    rows-are = rows-shown F codes (found .present) row-is
 
-    pub reported-is : reportedBy (t .al) (t .filiere) h xs found ≡ reportShown (reportOf F)
+    pub reported-is : reportedBy (t .al) (t .filiere) h codes found ≡ reportShown (reportOf F)
     unfolding reportedBy reportShown reportOf
     reported-is =
-        rw (ncc-is t n k true w es ts cs is xs (means fit) fine, counted-is t n k true w es ts cs is xs (means fit) fine, rows-are)
+        rw (ncc-is t n k true w es ts cs is codes (means fit) fine, counted-is t n k true w es ts cs is codes (means fit) fine, rows-are)

@@ -40,7 +40,7 @@ module _ (F : Filing) (c : List ℕ) where
   no-stop false false true x h = absurd (omega (arith, h))
   no-stop false false false x h = refl
 
-module _ {t : Site} {n : ℕ} {k : Tallies} {w : World} (fit : FileFits t n k w) (c : List ℕ) where
+module _ {t : Site} {n : ℕ} {k : Tallies} {w : World} {ps xs ks : List ℕ} (fit : FileFits t n k w ps xs ks) (c : List ℕ) where
   abbrev F' : Filing
   F' = filingHeld t n k true w
 
@@ -56,21 +56,21 @@ module _ {t : Site} {n : ℕ} {k : Tallies} {w : World} (fit : FileFits t n k w)
   curves = curveMarks (t .al) (historyYears (t .al) (t .filiere)) (w .near) (w .far) (k .breaks)
 
   abbrev indexes : List ℕ
-  indexes = indexMarks (w .positions) (w .kinds) n (historyYears (t .al) (t .filiere) .count) (k .breaks)
+  indexes = indexMarks ps ks n (historyYears (t .al) (t .filiere) .count) (k .breaks)
 
   abbrev defaults : List ℕ
   defaults = defaultMarks (caseCodes (isCurve (t .meter)) (historyYears (t .al) (t .filiere) .count) curves indexes) (historyYears (t .al) (t .filiere) .count)
 
   abbrev stop : ℕ
-  stop = stopNumber (historyYears (t .al) (t .filiere)) (k .profileDates) (k .dailyDates) indexes defaults (w .positions) n (totalsOf (w .positions) (w .daily) n)
+  stop = stopNumber (historyYears (t .al) (t .filiere)) (k .profileDates) (k .dailyDates) indexes defaults ps n (totalsOf ps (w .daily) n)
 
   stop-is : stop ≡ firstStop (lacks partial F') (lacks lacking F') (lacks zeroTotal F')
   unfolding stopNumber historyOfSite
   stop-is =
       rw (
         partial-held t n k true w,
-        lacking-held t n k true w (rise fit) (fit .readings) indexes (valid-set fit) defaults (default-set fit),
-        zero-held t n k true w (rise fit) (fit .readings) indexes (valid-set fit),
+        lacking-held t n k true w (fit .columns) (rise fit) (fit .readings) indexes (valid-set fit) defaults (default-set fit),
+        zero-held t n k true w (fit .columns) (rise fit) (fit .readings) indexes (valid-set fit),
       )
 
   -- refused by 15, 16 or 17

@@ -13,7 +13,7 @@ use Rattle.meaning.specs.Level.{counted}
 use Rattle.meaning.specs.Closing.{tooHigh, lacks}
 use Rattle.meaning.specs.Blocks.{World}
 use Rattle.meaning.specs.Record.{Tallies, filingHeld}
-use Rattle.meaning.proofs.Bound.Counted.{some-point}
+use Rattle.demands.proofs.Bound.Counted.{some-point}
 use Rattle.intervals.specs.Days.{energiesOf, totalsOf}
 use Rattle.points.specs.Cases.{isCurve, caseCodes}
 use Rattle.points.specs.Sources.{casFrom}
@@ -32,13 +32,13 @@ use Rattle.closing.proofs.Stopped.{stopped, exceeded, reports}
 use Rattle.closing.proofs.Shown.{reported-is}
 
 -- history, marks, and E and daily total by position, as they were found
-pub record Found (t : Site) (n : ℕ) (k : Tallies) (w : World) (h : Years) (m : Marks) (es ts : List ℕ) : Type 0 where
+pub record Found (t : Site) (n : ℕ) (k : Tallies) (w : World) (ps xs ks : List ℕ) (h : Years) (m : Marks) (es ts : List ℕ) : Type 0 where
   pub history : h ≡ historyYears (t .al) (t .filiere)
-  pub marks : m ≡ marksHeld (t .al) (t .meter) h (k .breaks) (w .near) (w .far) (w .positions) (w .kinds) n
-  pub energies : es ≡ energiesOf (w .positions) (w .indexes) n
-  pub totals : ts ≡ totalsOf (w .positions) (w .daily) n
+  pub marks : m ≡ marksHeld (t .al) (t .meter) h (k .breaks) (w .near) (w .far) ps ks n
+  pub energies : es ≡ energiesOf ps xs n
+  pub totals : ts ≡ totalsOf ps (w .daily) n
 
-module _ {t : Site} {n : ℕ} {k : Tallies} {w : World} (fit : FileFits t n k w) where
+module _ {t : Site} {n : ℕ} {k : Tallies} {w : World} {ps xs ks : List ℕ} (fit : FileFits t n k w ps xs ks) where
   abbrev F : Filing
   F = filingHeld t n k true w
 
@@ -46,17 +46,17 @@ module _ {t : Site} {n : ℕ} {k : Tallies} {w : World} (fit : FileFits t n k w)
   few-years e = rw e (oldest fit, short fit)
 
   pub found-by : {h : Years} {m : Marks} {es ts : List ℕ} → h ≡ historyYears (t .al) (t .filiere)
-      → m ≡ marksHeld (t .al) (t .meter) h (k .breaks) (w .near) (w .far) (w .positions) (w .kinds) n
-      → es ≡ energiesOf (w .positions) (w .indexes) n
-      → ts ≡ totalsOf (w .positions) (w .daily) n
-      → Found t n k w h m es ts
+      → m ≡ marksHeld (t .al) (t .meter) h (k .breaks) (w .near) (w .far) ps ks n
+      → es ≡ energiesOf ps xs n
+      → ts ≡ totalsOf ps (w .daily) n
+      → Found t n k w ps xs ks h m es ts
   found-by a b c d = record { history = a; marks = b; energies = c; totals = d }
 
-  module _ {h : Years} {m : Marks} {es ts : List ℕ} (found : Found t n k w h m es ts) where
+  module _ {h : Years} {m : Marks} {es ts : List ℕ} (found : Found t n k w ps xs ks h m es ts) where
     pub lists : ListsFit (t .al) (w .near) (w .far) (w .slots) es ts (k .rates)
     lists = rw (found .energies, found .totals) (lists-fit fit)
 
-    module _ (c : List ℕ) {number : ℕ} (told : number ≡ stopNumber h (k .profileDates) (k .dailyDates) (m .indexes) (m .defaults) (w .positions) n ts) where
+    module _ (c : List ℕ) {number : ℕ} (told : number ≡ stopNumber h (k .profileDates) (k .dailyDates) (m .indexes) (m .defaults) ps n ts) where
       abbrev y : Years
       y = historyYears (t .al) (t .filiere)
 
@@ -64,18 +64,18 @@ module _ {t : Site} {n : ℕ} {k : Tallies} {w : World} (fit : FileFits t n k w)
       cs = curveMarks (t .al) y (w .near) (w .far) (k .breaks)
 
       abbrev is : List ℕ
-      is = indexMarks (w .positions) (w .kinds) n (y .count) (k .breaks)
+      is = indexMarks ps ks n (y .count) (k .breaks)
 
-      abbrev xs : List ℕ
-      xs = caseCodes (isCurve (t .meter)) (y .count) cs is
+      abbrev codes : List ℕ
+      codes = caseCodes (isCurve (t .meter)) (y .count) cs is
 
       abbrev energies : List ℕ
-      energies = energiesOf (w .positions) (w .indexes) n
+      energies = energiesOf ps xs n
 
       abbrev totals : List ℕ
-      totals = totalsOf (w .positions) (w .daily) n
+      totals = totalsOf ps (w .daily) n
 
-      stop-is : number ≡ stopNumber y (k .profileDates) (k .dailyDates) is (defaultMarks xs (y .count)) (w .positions) n totals
+      stop-is : number ≡ stopNumber y (k .profileDates) (k .dailyDates) is (defaultMarks codes (y .count)) ps n totals
       unfolding marksHeld marksBy
       stop-is = rw (found .marks, found .history, found .totals) at told
 
@@ -86,13 +86,13 @@ module _ {t : Site} {n : ℕ} {k : Tallies} {w : World} (fit : FileFits t n k w)
       module _ (zero : number ≡ 0) {after : List ℕ} {f : Filling}
           (filled : Filled (basisOf (t .al) (t .filiere) (t .ps)) (held (w .near) (w .far) (w .slots) es ts (m .curves) (m .indexes) (casFrom (basisOf (t .al) (t .filiere) (t .ps) .first) (t .filiere)))
           (m .codes) (k .rates) after f) where
-        filled-is : Filled (basisOf (t .al) (t .filiere) (t .ps)) (held (w .near) (w .far) (w .slots) energies totals cs is (casFrom (y .first) (t .filiere))) xs (k .rates) after f
+        filled-is : Filled (basisOf (t .al) (t .filiere) (t .ps)) (held (w .near) (w .far) (w .slots) energies totals cs is (casFrom (y .first) (t .filiere))) codes (k .rates) after f
         unfolding marksHeld marksBy basisOf
         filled-is = rw (found .marks, found .history, found .energies, found .totals) at filled
 
         too-high : lacks tooHigh F ≡ f .exceeds
         too-high =
-            sym (ap (λ (x : Filling). x .exceeds) (filled-is .is) ∙ exceeds-is t n k true w energies totals cs is xs (means fit))
+            sym (ap (λ (x : Filling). x .exceeds) (filled-is .is) ∙ exceeds-is t n k true w energies totals cs is codes (means fit))
 
         -- 18
         pub exceeds : {r : Closing} {left : List ℕ} → r ≡ refusedBy 18 → left ≡ cond (f .exceeds) c after → f .exceeds ≡ true → handsBack r left ≡ closingMeant F c
@@ -108,7 +108,7 @@ module _ {t : Site} {n : ℕ} {k : Tallies} {w : World} (fit : FileFits t n k w)
 
           pub some-counted : 0 < f .counted
           some-counted =
-              rw (ap (λ (q : Filling). q .counted) (filled-is .is), counted-is t n k true w energies totals cs is xs (means fit) fine) (some-point F (known-filing))
+              rw (ap (λ (q : Filling). q .counted) (filled-is .is), counted-is t n k true w energies totals cs is codes (means fit) fine) (some-point F (known-filing))
             where
               known-filing : T (Rattle.calendar.specs.Spans.isKnown (F .site .al) (F .site .filiere))
               known-filing = unfold filingHeld in (known fit)
@@ -116,9 +116,9 @@ module _ {t : Site} {n : ℕ} {k : Tallies} {w : World} (fit : FileFits t n k w)
           -- no refusal
           pub reported : {r : Closing} {left : List ℕ} → r ≡ reportedBy (t .al) (t .filiere) h (m .codes) f → left ≡ cond (f .exceeds) c after → handsBack r left ≡ closingMeant F c
           reported e l =
-              ap₂ handsBack (e ∙ same ∙ reported-is fit fine) (l ∙ ap (λ (b : Bool). cond b c after) x ∙ filled-is .curve ∙ curve-is t n k true w energies totals cs is xs (means fit) fine)
+              ap₂ handsBack (e ∙ same ∙ reported-is fit fine) (l ∙ ap (λ (b : Bool). cond b c after) x ∙ filled-is .curve ∙ curve-is t n k true w energies totals cs is codes (means fit) fine)
               ∙ reports fit c number stop-is zero (too-high ∙ x)
             where
               same : reportedBy (t .al) (t .filiere) h (m .codes) f
-                  ≡ reportedBy (t .al) (t .filiere) y xs (fillingOf (basisOf (t .al) (t .filiere) (t .ps)) (held (w .near) (w .far) (w .slots) energies totals cs is (casFrom (y .first) (t .filiere))) xs (k .rates))
+                  ≡ reportedBy (t .al) (t .filiere) y codes (fillingOf (basisOf (t .al) (t .filiere) (t .ps)) (held (w .near) (w .far) (w .slots) energies totals cs is (casFrom (y .first) (t .filiere))) codes (k .rates))
               same = unfold marksHeld marksBy in (rw (filled-is .is, found .marks, found .history))

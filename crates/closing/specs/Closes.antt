@@ -14,25 +14,13 @@ use Rattle.meaning.specs.Closing.{Lack, lackNumber, closingRefusal}
 use Rattle.meaning.specs.Blocks.{World, sizesFit, readingsOf}
 use Rattle.meaning.specs.Record.{Tallies, historyOfSite, siteFits, talliesFit, pointsFit, slotsFit, dailyFits, readingsFit}
 use Rattle.meaning.specs.Text.{letterOfCase}
+use Rattle.readings.specs.Columns.{Columned}
 use Rattle.closing.specs.declared.Year.{Year}
 use Rattle.closing.specs.declared.Closing.{Closing}
 use Rattle.closing.specs.Rows.{yearRow, noYear, closing, refusedBy}
 
--- the lent lists
-abbrev pub world : List ℕ → List ℕ → List ℕ → List ℕ → List ℕ → List ℕ → List ℕ → List ℕ → World
-world near far slots daily positions indexes kinds curve = record {
-  near = near;
-  far = far;
-  slots = slots;
-  daily = daily;
-  positions = positions;
-  indexes = indexes;
-  kinds = kinds;
-  curve = curve;
-}
-
 -- ---- 1 of a file whose S was taken: site, number of readings and tallies are in their ranges, and the blocks hold what lines can give
-pub record FileFits (t : Site) (n : ℕ) (k : Tallies) (w : World) : Type 0 where
+pub record FileFits (t : Site) (n : ℕ) (k : Tallies) (w : World) (ps xs ks : List ℕ) : Type 0 where
   pub site : T (siteFits true t)
   -- 9
   pub late : T (not (isTooSoon (t .al) (t .filiere)))
@@ -44,6 +32,8 @@ pub record FileFits (t : Site) (n : ℕ) (k : Tallies) (w : World) : Type 0 wher
   pub slots : T (slotsFit (historyOfSite t) (w .slots))
   pub daily : T (dailyFits (axisYears (historyOfSite t)) (w .daily))
   pub readings : T (readingsFit (axisYears (historyOfSite t)) (readingsOf w n))
+  -- the readings stand in three columns
+  pub columns : Columned w n ps xs ks
 
 -- ---- what is handed back, with the curve as it is left
 pub record Handed : Type 0 where

@@ -6,10 +6,11 @@ ghost use Rattle.intake.specs.Views.{siteView};
 ghost use Rattle.ranges.specs.Views.{talliesView};
 ghost use Rattle.meaning.specs.Level.{missingEntry};
 ghost use Rattle.meaning.specs.Record.{filingHeld};
+ghost use Rattle.readings.specs.Columns.{worldIn};
 ghost use Rattle.points.specs.Sources.{casFrom};
 ghost use Rattle.curve.specs.Places.{held, basisOf};
 ghost use Rattle.curve.specs.Fits.{SiteFits, ListsFit, Filled};
-ghost use Rattle.closing.specs.Closes.{world, FileFits, handsBack, closingMeant};
+ghost use Rattle.closing.specs.Closes.{FileFits, handsBack, closingMeant};
 use crate::Closing;
 use crate::report;
 use curve::Filling;
@@ -70,8 +71,8 @@ pub fn close_file<'a>(
     kinds: &[u8],
     curve: &mut [u64],
 ) -> Closing
-    requires { ⌜ FileFits (siteView site) n (talliesView tallies) (world (now near) (now far) (now slots) (now daily) (now positions) (now indexes) (now kinds) (now curve)) ⌝ }
-    ensures { λ r. ⌜ handsBack r (now (curve .exit)) ≡ closingMeant (filingHeld (siteView site) n (talliesView tallies) true (world (now (near .entry)) (now (far .entry)) (now (slots .entry)) (now (daily .entry)) (now (positions .entry)) (now (indexes .entry)) (now (kinds .entry)) (now (curve .entry)))) (now (curve .entry)) ⌝ }
+    requires { ⌜ FileFits (siteView site) n (talliesView tallies) (worldIn (now near) (now far) (now slots) (now daily) (now positions) (now indexes) (now kinds) (now curve)) (now positions) (now indexes) (now kinds) ⌝ }
+    ensures { λ r. ⌜ handsBack r (now (curve .exit)) ≡ closingMeant (filingHeld (siteView site) n (talliesView tallies) true (worldIn (now (near .entry)) (now (far .entry)) (now (slots .entry)) (now (daily .entry)) (now (positions .entry)) (now (indexes .entry)) (now (kinds .entry)) (now (curve .entry)))) (now (curve .entry)) ⌝ }
 {
     let h = calendar::spans::history(site.al, site.filiere);
     let size = n as usize;

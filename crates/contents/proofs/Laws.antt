@@ -1,5 +1,5 @@
 -- What 1 has told of the blocks at the close, as plain facts of lists, and of a record's blocks.
-use mathlib.Core.Path.{_≡_, refl}
+use mathlib.Core.Path.{_≡_}
 use mathlib.Core.Logic.{_⊎_, inl, inr}
 use mathlib.Core.Bool.{Bool, true, false, not, _&&_, _||_, cond}
 use mathlib.Core.List.{List}
@@ -19,8 +19,9 @@ use Rattle.meaning.specs.Filing.{real, corrected, estimated, strange}
 use Rattle.meaning.specs.Line.{mostPower, mostIndex, mostProfile, mostDaily, kindOfLetter, isKind}
 use Rattle.meaning.specs.Blocks.{World, missingPoint, rowSize, readingsOf}
 use Rattle.meaning.specs.Record.{Rec, siteOfRec, historyOfSite, historyOfRec, axisOfRec, isDated, pointFits, pointsFit, slotsFit, dailyFits, readingFits, readingsFit, contentsFit}
-use Rattle.contents.specs.Contents.{readingsIn, contentsIn}
-use Rattle.axis_blocks.proofs.Columns.{readingAt, follows}
+use Rattle.readings.specs.Columns.{readingIn, readingsIn}
+use Rattle.contents.specs.Contents.{contentsIn}
+use Rattle.axis_blocks.proofs.Columns.{follows}
 
 -- ---- what is fresh, or dated and at most m
 either : {A : Type 0} (a b c : Bool) → (T a → A) → (T b → T c → A) → T (a || (b && c)) → A
@@ -129,9 +130,9 @@ module _ (f : ℕ → ℕ) (n : ℕ) where
       rw e (omega (arith, all-climb h i d (omega arith), h (i + d) (omega arith)))
 
 module _ (axis : Years) (ps xs ks : List ℕ) (n : ℕ) (t : T (readingsFit axis (readingsIn ps xs ks n))) where
-  both : T (all (readingFits axis) (tab n 0 (readingAt ps xs ks))) × T (all follows (neighbours (tab n 0 (readingAt ps xs ks))))
+  both : T (all (readingFits axis) (tab n 0 (readingIn ps xs ks))) × T (all follows (neighbours (tab n 0 (readingIn ps xs ks))))
   unfolding readingsFit readingsIn
-  both = and-parts (all (readingFits axis) (tab n 0 (readingAt ps xs ks))) _ t
+  both = and-parts (all (readingFits axis) (tab n 0 (readingIn ps xs ks))) _ t
 
   record One (i : ℕ) : Type 0 where
     year : T (among axis (yearAt axis (getD ps i 0)))
@@ -142,7 +143,7 @@ module _ (axis : Years) (ps xs ks : List ℕ) (n : ℕ) (t : T (readingsFit axis
   one : (i : ℕ) → i < n → One i
   unfolding readingFits
   one i l =
-      let r = readingAt ps xs ks in
+      let r = readingIn ps xs ks in
       let fit = rw (getD-tab0 n r i (r 0) l) at (all-at (readingFits axis) (tab n 0 r) (both .0) i (r 0) (omega (arith, length-tab n 0 r))) in
       let p = and-parts (among axis (yearAt axis (getD ps i 0)) && hasDate (yearAt axis (getD ps i 0)) (placeAt (getD ps i 0))) _ fit in
       let q = and-parts (among axis (yearAt axis (getD ps i 0))) _ (p .0) in
@@ -151,7 +152,7 @@ module _ (axis : Years) (ps xs ks : List ℕ) (n : ℕ) (t : T (readingsFit axis
 
   two : (i : ℕ) → i + 1 < n → (getD ps i 0 < getD ps (i + 1) 0) × (getD xs i 0 ≤ getD xs (i + 1) 0)
   two i l =
-      let r = readingAt ps xs ks in
+      let r = readingIn ps xs ks in
       let s = neighbours-at follows (tab n 0 r) (both .1) i (r 0) (omega (arith, length-tab n 0 r)) in
       let k : i < n = omega arith in
       let u = rw (getD-tab0 n r i (r 0) k, getD-tab0 n r (i + 1) (r 0) l) at s in
@@ -178,27 +179,24 @@ module _ (axis : Years) (ps xs ks : List ℕ) (n : ℕ) (t : T (readingsFit axis
   }
 
 -- ---- a record's blocks
-pub readings-of : (w : World) (n : ℕ) → readingsOf w n ≡ readingsIn (w .positions) (w .indexes) (w .kinds) n
-unfolding readingsOf readingsIn
-readings-of w n = refl
+-- what the code tells of lists and numbers is what 1 asks of the record, where its readings are those of three columns
+pub contents-fit : (s : Rec) (w : World) (ps xs ks : List ℕ) → readingsOf w (s .readings) ≡ readingsIn ps xs ks (s .readings)
+    → contentsFit s w ≡ contentsIn (historyOfRec s) (axisOfRec s) (s .site .al) (w .near) (w .far) (w .slots) (w .daily) ps xs ks (s .readings)
+unfolding contentsFit contentsIn
+contents-fit s w ps xs ks e = rw e
 
--- what the code tells of lists and numbers is what 1 asks of the record
-pub contents-fit : (s : Rec) (w : World)
-    → contentsFit s w ≡ contentsIn (historyOfRec s) (axisOfRec s) (s .site .al) (w .near) (w .far) (w .slots) (w .daily) (w .positions) (w .indexes) (w .kinds) (s .readings)
-unfolding contentsFit contentsIn readingsOf readingsIn
-contents-fit s w = refl
-
-pub record ContentsHeld (h axis : Years) (al : ℕ) (w : World) (n : ℕ) : Type 0 where
+pub record ContentsHeld (h axis : Years) (al : ℕ) (w : World) (ps xs ks : List ℕ) (n : ℕ) : Type 0 where
   pub near : PointsHeld h (al - 9) (w .near)
   pub far : PointsHeld h (al - 14) (w .far)
   pub slots : SlotsHeld h (w .slots)
   pub daily : DailyHeld axis (w .daily)
-  pub readings : ReadingsHeld axis (w .positions) (w .indexes) (w .kinds) n
+  pub readings : ReadingsHeld axis ps xs ks n
 
-pub contents-held : (s : Rec) (w : World) → T (contentsFit s w) → ContentsHeld (historyOfRec s) (axisOfRec s) (s .site .al) w (s .readings)
+pub contents-held : (s : Rec) (w : World) (ps xs ks : List ℕ) → readingsOf w (s .readings) ≡ readingsIn ps xs ks (s .readings)
+    → T (contentsFit s w) → ContentsHeld (historyOfRec s) (axisOfRec s) (s .site .al) w ps xs ks (s .readings)
 unfolding contentsIn
-contents-held s w t =
-    let u = rw (contents-fit s w) at t in
+contents-held s w ps xs ks e t =
+    let u = rw (contents-fit s w ps xs ks e) at t in
     let a = and-parts (pointsFit (historyOfRec s) (s .site .al - 9) (w .near) && pointsFit (historyOfRec s) (s .site .al - 14) (w .far)) _ u in
     let b = and-parts (pointsFit (historyOfRec s) (s .site .al - 9) (w .near)) _ (a .0) in
     let c = and-parts (slotsFit (historyOfRec s) (w .slots) && dailyFits (axisOfRec s) (w .daily)) _ (a .1) in
@@ -208,7 +206,7 @@ contents-held s w t =
       far = points-held (historyOfRec s) (s .site .al - 14) (w .far) (b .1);
       slots = slots-held (historyOfRec s) (w .slots) (d .0);
       daily = daily-held (axisOfRec s) (w .daily) (d .1);
-      readings = readings-held (axisOfRec s) (w .positions) (w .indexes) (w .kinds) (s .readings) (c .1);
+      readings = readings-held (axisOfRec s) ps xs ks (s .readings) (c .1);
     }
 
 -- ---- the years that the code takes

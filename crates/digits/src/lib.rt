@@ -1,7 +1,6 @@
 // Text into lent bytes: from a place on, all of it or, where it does not fit, nothing. The answer is the place after it.
 ghost use mathlib.Core.Path.{_≡_};
 ghost use mathlib.Core.List.{[], _∷_};
-ghost use Rattle.digits.specs.Digits.{digitsOf};
 ghost use Rattle.digits.specs.Written.{written, placeAfter};
 
 pub fn put_byte(b: u8, out: &mut [u8], at: usize) -> usize
@@ -32,14 +31,4 @@ pub fn put_text(text: &[u8], out: &mut [u8], at: usize) -> usize
         k += 1;
     }
     at + k
-}
-
-// A number's decimal digits.
-pub fn put_number(n: u64, out: &mut [u8], at: usize) -> usize
-    ensures { λ r. ⌜ r ≡ placeAfter (now (out .entry)) at (digitsOf n) ⌝ }
-    ensures { λ _. ⌜ now (out .exit) ≡ written (now (out .entry)) at (digitsOf n) ⌝ }
-{
-    let mut text = [0u8; 20];
-    let k = io::decimal(n, &mut text);
-    put_text(&text[..k], out, at)
 }

@@ -1,2 +1,2 @@
-pub mod Given
+pub mod Gave
 pub mod Laws

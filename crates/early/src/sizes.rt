@@ -9,17 +9,14 @@ pub fn sizes_fit(
     far: usize,
     slots: usize,
     daily: usize,
-    positions: usize,
-    indexes: usize,
-    kinds: usize,
+    readings: usize,
     curve: usize,
 ) -> bool
-    ensures { λ r. ⌜ r ≡ lengthsFit near far slots daily positions indexes kinds curve ⌝ }
+    ensures { λ r. ⌜ r ≡ lengthsFit near far slots daily readings curve ⌝ }
 {
-    let readings = both(indexes == 600, both(kinds == 600, curve == 4400));
-    let sums = both(daily == 4392, both(positions == 600, readings));
+    let rest = both(daily == 4392, both(readings == 600, curve == 4400));
     both(
         near == 15200,
-        both(far == 15200, both(slots == 30400, sums)),
+        both(far == 15200, both(slots == 30400, rest)),
     )
 }

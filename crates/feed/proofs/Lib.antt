@@ -1,2 +1,3 @@
 pub mod Held
+pub mod Stepping
 pub mod Turns

@@ -1,19 +1,30 @@
 // One step of a run: a line's bytes up to its end, or up to the end of the piece.
 use crate::Run;
+use crate::Stepped;
+use answers::Answer;
 use begun::appended;
 use begun::completed;
 use begun::least;
 use begun::whole;
-use site::Answer;
+use hearing::Heard;
+use hearing::hear_line;
+use readings::Kind;
+use readings::Reading;
+use site::line_answer;
 ghost use mathlib.Core.Path.{_≡_};
 ghost use mathlib.Core.Bool.{_&&_, not};
 ghost use Prim.Native.Nat.{_+_, _≤_};
 ghost use lib.Dec.{ltb};
-ghost use lib.ListN.{length};
+ghost use lib.ListN.{length, set};
+ghost use Rattle.answers.specs.Views.{answerView};
 ghost use Rattle.pieces.specs.Run.{isAnswered};
 ghost use Rattle.pieces.specs.Parts.{stepped};
-ghost use Rattle.site.specs.Views.{answerView, world};
-ghost use Rattle.feed.specs.Views.{heldIn, runView};
+ghost use Rattle.readings.specs.Readings.{seen};
+ghost use Rattle.readings.specs.Columns.{world};
+ghost use Rattle.readings.specs.Lent.{EachLent};
+ghost use Rattle.feed.specs.Views.{heldIn, runView, heldOn, Gives};
+
+const READINGS: usize = 600;
 
 pub fn is_answered(answer: Answer) -> bool
     ensures { λ r. ⌜ r ≡ isAnswered (answerView answer) ⌝ }
@@ -43,7 +54,49 @@ fn goes_on(ended: bool, bytes: usize) -> bool
     bytes < 321
 }
 
-// A line that has its end, or its 321st byte, is given.
+// More bytes are held, and no line is given.
+fn held_on(run: Run, line: [u8; 321], bytes: usize) -> Stepped
+    ensures { λ r. ⌜ r ≡ heldOn run line bytes ⌝ }
+{
+    let record = run.record;
+    let answer = run.answer;
+    Stepped {
+        run: Run {
+            record,
+            answer,
+            line,
+            held: bytes,
+        },
+        slot: READINGS,
+        reading: Reading {
+            position: 0,
+            count: 0,
+            kind: Kind::E,
+        },
+    }
+}
+
+// A line was given: none is begun.
+fn given(heard: Heard, line: [u8; 321]) -> Stepped
+    ensures { λ r. ⌜ Gives r heard ⌝ }
+{
+    let o = line_answer(heard);
+    let record = o.record;
+    let answer = o.answer;
+    let reading = heard.reading;
+    Stepped {
+        run: Run {
+            record,
+            answer,
+            line,
+            held: 0,
+        },
+        slot: heard.slot,
+        reading,
+    }
+}
+
+// A line that has its end, or its 321st byte, is given. No line touches the curve, of which only the length is told.
 pub fn step(
     run: Run,
     part: &[u8],
@@ -52,47 +105,33 @@ pub fn step(
     far: &mut [u32],
     slots: &mut [u16],
     daily: &mut [u32],
-    positions: &mut [u32],
-    indexes: &mut [u64],
-    kinds: &mut [u8],
-    curve: &[u64],
-) -> Run
+    curve: usize,
+) -> Stepped
     requires { ⌜ heldIn run + length (now part) ≤ 321 ⌝ }
-    ensures { λ r. ⌜ runView r (world (now (near .exit)) (now (far .exit)) (now (slots .exit)) (now (daily .exit)) (now (positions .exit)) (now (indexes .exit)) (now (kinds .exit)) (now (curve .entry))) ≡ stepped ended (runView run (world (now (near .entry)) (now (far .entry)) (now (slots .entry)) (now (daily .entry)) (now (positions .entry)) (now (indexes .entry)) (now (kinds .entry)) (now (curve .entry)))) (now (part .entry)) ⌝ }
+    ensures { λ r. ⌜ EachLent 600 curve (λ rs c. runView (r .run) (world (now (near .exit)) (now (far .exit)) (now (slots .exit)) (now (daily .exit)) (seen (set rs (r .slot) (r .reading))) c) ≡ stepped ended (runView run (world (now (near .entry)) (now (far .entry)) (now (slots .entry)) (now (daily .entry)) (seen rs) c)) (now (part .entry))) ⌝ }
 {
     let line = run.line;
-    let record = run.record;
     let held = least(run.held, 320);
     let bytes = held + part.len();
     if goes_on(ended, bytes) {
-        let answer = run.answer;
         let more = appended(line, held, part);
-        return Run {
-            record,
-            answer,
-            line: more,
-            held: bytes,
-        };
+        return held_on(run, more, bytes);
     }
     let full = completed(line, held, part);
     let text = whole(&full, held, part);
-    let o = record.line(
+    let record = run.record;
+    let progress = record.progress;
+    let heard = hear_line(
+        record.state,
+        record.count,
+        progress,
         text,
         near,
         far,
         slots,
         daily,
-        positions,
-        indexes,
-        kinds,
+        READINGS,
         curve,
     );
-    let after = o.record;
-    let said = o.answer;
-    Run {
-        record: after,
-        answer: said,
-        line: full,
-        held: 0,
-    }
+    given(heard, full)
 }

@@ -14,14 +14,13 @@ use Rattle.meaning.specs.Text.{textOf}
 use Rattle.meaning.specs.Sheet.{sheetOf}
 use Rattle.meaning.specs.Blocks.{World, sizesFit}
 use Rattle.meaning.specs.Record.{Rec}
-use Rattle.meaning.specs.Calls.{openingOf}
-use Rattle.pieces.specs.Run.{Run, runOf, isAnswered, started, fed, fedAll, ended, ranOver}
+use Rattle.pieces.specs.Run.{Run, isAnswered, started, fed, fedAll, ended, ranOver}
 use Rattle.pieces.specs.Promise.{mostInput}
 use Rattle.pieces.proofs.Feeding.{fed-append, kept}
 use Rattle.pieces.proofs.Answers.{answer-comes}
 use Rattle.closing.specs.declared.Year.{Year}
-use Rattle.site.specs.declared.Answer as site
-use Rattle.site.specs.Closes.{Handed, hands, handed}
+use Rattle.answers.specs.declared.Answer as answers
+use Rattle.ending.specs.Ends.{Handed, hands, handed}
 use Rattle.sheet.specs.declared.Printed.{Printed}
 use Rattle.sheet.specs.Shown.{sheetText, Holds}
 use Rattle.sheet.proofs.Texts.{sheet-text}
@@ -46,8 +45,8 @@ pub record Going (r : Run) (t : ℕ) (e : End) : Type 0 where
   pub so-far : r ≡ fed (started first lent) bytes
   pub stands : Stands e r t bytes
 
-pub going-first : (s : Rec) (w : World) (t : ℕ) (r : Run) → T (sizesFit w) → r ≡ runOf (openingOf s w) [] → mostInput ≤ t → Going r t Answer
-unfolding Stands started fed
+pub going-first : (s : Rec) (w : World) (t : ℕ) (r : Run) → T (sizesFit w) → r ≡ started s w → mostInput ≤ t → Going r t Answer
+unfolding Stands fed
 going-first s w t r z q h = record { first = s; lent = w; sized = z; bytes = []; so-far = q; stands = inr (omega arith) }
 
 -- ---- a turn
@@ -134,7 +133,7 @@ hands-by r Answer p g h = (g .bytes, λ cs. rw (by-answer r g cs) at h)
 hands-by r Input p g h = (g .bytes, rw (by-input r 0 Input g) at h)
 hands-by r Failure p g h = h
 
-pub hands-out : (r : Run) (t : ℕ) (e : End) (a : site.Answer) (s : Rec) (ys : List Year) (w : World) (p : Printed)
+pub hands-out : (r : Run) (t : ℕ) (e : End) (a : answers.Answer) (s : Rec) (ys : List Year) (w : World) (p : Printed)
     → t ≤ 0 → Going r t e → hands a s ys w ≡ handed (ended r) → Holds p (textTold e a ys) → HandsOut e p
 hands-out r t e a s ys w p z g q h =
     let y : t ≡ 0 = omega arith in

@@ -5,17 +5,24 @@ use mathlib.Core.List.{List, [], _++_}
 use Prim.Native.Nat.{ℕ, _-_}
 use lib.Dec.{eqb}
 use lib.IntN.{ℤ, pos, negsuc}
+use lib.ListN.{replicate}
 use Rattle.meaning.specs.Input.{linesOf}
 use Rattle.meaning.specs.Text.{textOf}
 use Rattle.meaning.specs.Sheet.{sheetOf}
+use Rattle.readings.specs.declared.Reading.{Reading}
+use Rattle.readings.specs.Readings.{fresh}
 use Rattle.closing.specs.declared.Year.{Year}
-use Rattle.site.specs.declared.Answer as site
+use Rattle.answers.specs.declared.Answer as answers
 use Rattle.sheet.specs.declared.Printed.{Printed}
 use Rattle.sheet.specs.Shown.{sheetText, Holds}
 use Rattle.filed.specs.declared.End.{End}
 use Rattle.filed.specs.declared.End.the-variants.{Answer, Input, Failure}
 use Rattle.filed.specs.declared.Left.{Left}
 use Rattle.filed.specs.declared.Filed.{Filed}
+
+-- a run's readings at its start
+unfoldable pub freshReadings : List Reading
+freshReadings = replicate 600 fresh
 
 abbrev pub left : ℕ → End → Left
 left n e = record { turns = n; end = e }
@@ -31,12 +38,12 @@ leftAfter true n a t = left 0 Failure
 leftAfter false n a t = cond (eqb n 0) (left 0 Input) (cond a (left 0 Answer) (left (t - 1) Answer))
 
 -- a failed read has no sheet
-unfoldable pub textTold : End → site.Answer → List Year → List ℕ
+unfoldable pub textTold : End → answers.Answer → List Year → List ℕ
 textTold Answer a ys = sheetText a ys
 textTold Input a ys = sheetText a ys
 textTold Failure a ys = []
 
-pub record Tells (r : Filed) (e : End) (a : site.Answer) (ys : List Year) : Type 0 where
+pub record Tells (r : Filed) (e : End) (a : answers.Answer) (ys : List Year) : Type 0 where
   pub end : r .end ≡ e
   pub text : Holds (r .printed) (textTold e a ys)
 

@@ -3,15 +3,67 @@ use crate::End;
 use crate::Filed;
 use crate::ends::after;
 use crate::ends::told;
+use feed::Fed;
 use feed::feed;
 use feed::is_answered;
 use feed::start;
+use opening::open_blocks;
+use readings::Kind;
+use readings::Reading;
 use sheet::finish;
 use site::Record;
-ghost use Rattle.filed.specs.Ends.{HandsOut};
+use site::open_answer;
+ghost use mathlib.Core.Path.{_≡_};
+ghost use Rattle.meaning.specs.Record.{neverOpened};
+ghost use Rattle.pieces.specs.Run.{started, fed};
+ghost use Rattle.readings.specs.Readings.{seen};
+ghost use Rattle.readings.specs.Columns.{world};
+ghost use Rattle.feed.specs.Views.{runView, EachCurve};
+ghost use Rattle.filed.specs.Ends.{freshReadings, HandsOut};
 
 // One more than the bytes after which a run has its answer: 8,032 lines of 321. Each turn reads one or more.
 const TURNS: u64 = 2_578_273;
+
+const READINGS: usize = 600;
+
+// On a record just opened, with readings that are made fresh.
+fn begin(
+    near: &mut [u32],
+    far: &mut [u32],
+    slots: &mut [u16],
+    daily: &mut [u32],
+    curve: &mut [u64],
+) -> Fed
+    ensures { λ r. ⌜ runView (r .run) (world (now (near .exit)) (now (far .exit)) (now (slots .exit)) (now (daily .exit)) (seen (r .readings)) (now (curve .exit))) ≡ started neverOpened (world (now (near .entry)) (now (far .entry)) (now (slots .entry)) (now (daily .entry)) (seen freshReadings) (now (curve .entry))) ⌝ }
+{
+    let sized = open_blocks(near, far, slots, daily, READINGS, curve);
+    let opened = open_answer(Record::never_opened(), sized);
+    let fresh = Reading {
+        position: 0,
+        count: 0,
+        kind: Kind::E,
+    };
+    Fed {
+        run: start(opened),
+        readings: [fresh; 600],
+    }
+}
+
+// Over one more piece.
+fn go_on(
+    so_far: Fed,
+    piece: &[u8],
+    near: &mut [u32],
+    far: &mut [u32],
+    slots: &mut [u16],
+    daily: &mut [u32],
+) -> Fed
+    ensures { λ r. ⌜ EachCurve (λ c. runView (r .run) (world (now (near .exit)) (now (far .exit)) (now (slots .exit)) (now (daily .exit)) (seen (r .readings)) c) ≡ fed (runView («so_far» .run) (world (now (near .entry)) (now (far .entry)) (now (slots .entry)) (now (daily .entry)) (seen («so_far» .readings)) c)) (now (piece .entry))) ⌝ }
+{
+    let run = so_far.run;
+    let readings = so_far.readings;
+    feed(run, readings, piece, near, far, slots, daily)
+}
 
 pub fn run(fd: i32) -> Filed
     ensures { λ r. ⌜ HandsOut (r .end) (r .printed) ⌝ }
@@ -20,54 +72,30 @@ pub fn run(fd: i32) -> Filed
     let mut far = [0u32; 15200];
     let mut slots = [0u16; 30400];
     let mut daily = [0u32; 4392];
-    let mut positions = [0u32; 600];
-    let mut indexes = [0u64; 600];
-    let mut kinds = [0u8; 600];
     let mut curve = [0u64; 4400];
-    let fresh = Record::never_opened();
-    let opened = fresh.open(
-        &mut near,
-        &mut far,
-        &mut slots,
-        &mut daily,
-        &mut positions,
-        &mut indexes,
-        &mut kinds,
-        &mut curve,
-    );
-    let mut run = start(opened);
+    let mut fed = begin(&mut near, &mut far, &mut slots, &mut daily, &mut curve);
     let mut buf = io::large_buffer();
     let mut turns = TURNS;
     let mut end = End::Answer;
     while 0 < turns {
         let got = libc::read(fd, &mut buf);
         let n = io::count(got, &buf);
-        run = feed(
-            run,
-            &buf[..n],
-            &mut near,
-            &mut far,
-            &mut slots,
-            &mut daily,
-            &mut positions,
-            &mut indexes,
-            &mut kinds,
-            &curve,
-        );
+        fed = go_on(fed, &buf[..n], &mut near, &mut far, &mut slots, &mut daily);
+        let run = fed.run;
         let answer = run.answer;
         let left = after(got, n, is_answered(answer), turns);
         turns = left.turns;
         end = left.end;
     }
+    let run = fed.run;
+    let readings = fed.readings;
     let closed = finish(
         run,
+        readings,
         &mut near,
         &mut far,
         &mut slots,
         &mut daily,
-        &mut positions,
-        &mut indexes,
-        &mut kinds,
         &mut curve,
     );
     told(end, closed)

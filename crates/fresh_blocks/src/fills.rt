@@ -2,17 +2,6 @@
 ghost use mathlib.Core.Path.{_≡_};
 ghost use lib.ListN.{length, replicate};
 
-pub fn fill_u8(block: &mut [u8], letter: u8)
-    ensures { λ _. ⌜ now (block .exit) ≡ replicate (length (now (block .entry))) letter ⌝ }
-{
-    let n = block.len();
-    let mut i = 0;
-    while i < n {
-        block[i] = letter;
-        i += 1;
-    }
-}
-
 pub fn fill_u16(block: &mut [u16], profile: u16)
     ensures { λ _. ⌜ now (block .exit) ≡ replicate (length (now (block .entry))) profile ⌝ }
 {

@@ -9,6 +9,8 @@ use lib.ListN.{length, take, drop, length-take, length-drop, drop-of-length-le}
 use lib.Seq.{drop-drop}
 use borrow.Author.Tests.{leb-true, leb-false}
 use Rattle.text.specs.Fields.{upTo, past, tabAt, restAt, fieldAt}
+use Rattle.text.specs.Numbers.{numberedOf}
+use Rattle.text.specs.declared.Numbered.{Numbered}
 use Rattle.text.proofs.Laws.{tab-le, up-take, past-drop, rest-of}
 
 -- ---- one field
@@ -32,6 +34,10 @@ field-of l t f n p q = q ∙ ap upTo p
 
 pub go-on : (l t f r : List ℕ) (n : ℕ) → t ≡ restAt l n → f ≡ upTo t → r ≡ drop (length f + 1) t → r ≡ restAt l (suc n)
 go-on l t f r n p q e = e ∙ after-field t f q ∙ ap past p ∙ sym (rest-suc n l)
+
+pub number-past : (l t : List ℕ) (f : Numbered) (r : List ℕ) (n : ℕ) → t ≡ restAt l n → f ≡ numberedOf t → r ≡ drop (f .length + 1) t → r ≡ restAt l (suc n)
+unfolding numberedOf
+number-past l t f r n p q e = e ∙ rw q (sym (past-drop t)) ∙ ap past p ∙ sym (rest-suc n l)
 
 pub after-tag : (l t : List ℕ) → t ≡ past l → t ≡ restAt l 1
 unfolding restAt

@@ -32,15 +32,15 @@ pub fn read_reading(line: &[u8]) -> ReadingRead
     let date = date_fields(t);
     let a = date.used;
     let after_date = &t[a..];
-    let index = text::field(after_date);
-    let kind = kind_of(text::field(text::after(after_date, index.len())));
-    let end = both(text::is_number(index), kind != 0);
+    let index = text::number(after_date);
+    let kind = kind_of(text::field(text::after(after_date, index.length)));
+    let end = both(index.formed, kind != 0);
     ReadingRead {
         formed: both(date.formed, end),
         year: date.year,
         month: date.month,
         day: date.day,
-        index: text::value(index),
+        index: index.value,
         kind,
     }
 }
@@ -51,12 +51,12 @@ pub fn read_daily(line: &[u8]) -> DailyRead
     let t = after_tag(line);
     let date = date_fields(t);
     let a = date.used;
-    let sum = text::field(&t[a..]);
+    let sum = text::number(&t[a..]);
     DailyRead {
-        formed: both(date.formed, text::is_number(sum)),
+        formed: both(date.formed, sum.formed),
         year: date.year,
         month: date.month,
         day: date.day,
-        sum: text::value(sum),
+        sum: sum.value,
     }
 }

@@ -26,19 +26,18 @@ pub fn after_tag(line: &[u8]) -> &[u8]
 pub fn date_fields(t: &[u8]) -> DateFields
     ensures { λ r. ⌜ r ≡ dateFieldsOf (now (t .entry)) ⌝ }
 {
-    let year = text::field(t);
-    let after_year = text::after(t, year.len());
-    let month = text::field(after_year);
-    let after_month = text::after(after_year, month.len());
-    let day = text::field(after_month);
-    let after_day = text::after(after_month, day.len());
-    let end = both(text::is_number(month), text::is_number(day));
-    let formed = both(text::is_number(year), end);
+    let year = text::number(t);
+    let after_year = text::after(t, year.length);
+    let month = text::number(after_year);
+    let after_month = text::after(after_year, month.length);
+    let day = text::number(after_month);
+    let after_day = text::after(after_month, day.length);
+    let end = both(month.formed, day.formed);
     DateFields {
-        formed,
-        year: text::value(year),
-        month: text::value(month),
-        day: text::value(day),
+        formed: both(year.formed, end),
+        year: year.value,
+        month: month.value,
+        day: day.value,
         used: t.len() - after_day.len(),
     }
 }

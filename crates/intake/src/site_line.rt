@@ -48,22 +48,22 @@ pub fn read_site(line: &[u8]) -> SiteRead
     let t = after_tag(line);
     let edition = text::field(t);
     let after_edition = text::after(t, edition.len());
-    let al = text::field(after_edition);
-    let after_al = text::after(after_edition, al.len());
-    let filiere = text::field(after_al);
-    let after_filiere = text::after(after_al, filiere.len());
+    let al = text::number(after_edition);
+    let after_al = text::after(after_edition, al.length);
+    let filiere = text::number(after_al);
+    let after_filiere = text::after(after_al, filiere.length);
     let letter = text::field(after_filiere);
     let meter = meter_of(letter);
-    let ps = text::field(text::after(after_filiere, letter.len()));
-    let end = both(is_meter(meter), text::is_number(ps));
-    let numbers = both(text::is_number(al), both(text::is_number(filiere), end));
+    let ps = text::number(text::after(after_filiere, letter.len()));
+    let end = both(is_meter(meter), ps.formed);
+    let numbers = both(al.formed, both(filiere.formed, end));
     SiteRead {
         formed: both(text::is_edition(edition), numbers),
         site: Site {
-            al: text::value(al),
-            filiere: text::value(filiere),
+            al: al.value,
+            filiere: filiere.value,
             meter,
-            ps: text::value(ps),
+            ps: ps.value,
         },
     }
 }

@@ -10,10 +10,10 @@ ghost use Rattle.intake.specs.Reads.{yearReadOf, rateReadOf, countReadOf
 pub fn read_year(line: &[u8]) -> YearRead
     ensures { λ r. ⌜ r ≡ yearReadOf (now (line .entry)) ⌝ }
 {
-    let year = text::field(after_tag(line));
+    let year = text::number(after_tag(line));
     YearRead {
-        formed: text::is_number(year),
-        year: text::value(year),
+        formed: year.formed,
+        year: year.value,
     }
 }
 
@@ -21,21 +21,21 @@ pub fn read_rate(line: &[u8]) -> RateRead
     ensures { λ r. ⌜ r ≡ rateReadOf (now (line .entry)) ⌝ }
 {
     let t = after_tag(line);
-    let year = text::field(t);
-    let rate = text::field(text::after(t, year.len()));
+    let year = text::number(t);
+    let rate = text::number(text::after(t, year.length));
     RateRead {
-        formed: both(text::is_number(year), text::is_number(rate)),
-        year: text::value(year),
-        rate: text::value(rate),
+        formed: both(year.formed, rate.formed),
+        year: year.value,
+        rate: rate.value,
     }
 }
 
 pub fn read_count(line: &[u8]) -> CountRead
     ensures { λ r. ⌜ r ≡ countReadOf (now (line .entry)) ⌝ }
 {
-    let count = text::field(after_tag(line));
+    let count = text::number(after_tag(line));
     CountRead {
-        formed: text::is_number(count),
-        count: text::value(count),
+        formed: count.formed,
+        count: count.value,
     }
 }

@@ -24,6 +24,7 @@ use Rattle.meaning.specs.Filing.{Site}
 use Rattle.meaning.specs.Line.{mostDaily}
 use Rattle.meaning.specs.Blocks.{World, readingsOf}
 use Rattle.meaning.specs.Record.{historyOfSite, readingsFit, dailyFits}
+use Rattle.readings.specs.Columns.{Columned}
 use Rattle.intervals.specs.Columns.{opens, closes, Rising}
 use Rattle.intervals.specs.Days.{isAround, around, energyIn, sumBetween, totalIn, ofInterval, energyAt, totalAt, energiesOf, totalsOf}
 use Rattle.intervals.proofs.Filed.{Fits, fits}
@@ -70,17 +71,17 @@ unfolding sumBetween range
 sum-within ds m a b h =
     omega (arith, sum-most (λ p. getD ds p 0) m h (range a (b - a)), ap sum (map-tab (λ p. getD ds p 0) (b - a) a (λ p. p)), ap (λ (l : ℕ). m * l) (length-tab (b - a) a (λ p. p)))
 
-module _ (t : Site) (n : ℕ) (w : World) (fit : T (readingsFit (axisYears (historyOfSite t)) (readingsOf w n))) where
-  pub energies-most : (p : ℕ) → getD (energiesOf (w .positions) (w .indexes) n) p 0 ≤ 1000000000000
+module _ (t : Site) (n : ℕ) (w : World) {ps xs ks : List ℕ} (cols : Columned w n ps xs ks) (fit : T (readingsFit (axisYears (historyOfSite t)) (readingsOf w n))) where
+  pub energies-most : (p : ℕ) → getD (energiesOf ps xs n) p 0 ≤ 1000000000000
   unfolding energiesOf energyAt energyIn
   energies-most =
-      table-most 4392 1000000000000 (energyAt (w .positions) (w .indexes) n)
-      (interval-most (w .positions) n 1000000000000 (energyIn (w .indexes)) (λ i h. omega (arith, fits (axisYears (historyOfSite t)) w n fit .most (i + 1) h)))
+      table-most 4392 1000000000000 (energyAt ps xs n)
+      (interval-most ps n 1000000000000 (energyIn xs) (λ i h. omega (arith, fits (axisYears (historyOfSite t)) cols fit .most (i + 1) h)))
 
   -- 4,392 daily sums of 3,145,680
-  pub totals-most : Rising (w .positions) n → T (dailyFits (axisYears (historyOfSite t)) (w .daily)) → (p : ℕ) → getD (totalsOf (w .positions) (w .daily) n) p 0 ≤ 13815826560
+  pub totals-most : Rising ps n → T (dailyFits (axisYears (historyOfSite t)) (w .daily)) → (p : ℕ) → getD (totalsOf ps (w .daily) n) p 0 ≤ 13815826560
   unfolding totalsOf totalAt totalIn
   totals-most r d =
-      table-most 4392 13815826560 (totalAt (w .positions) (w .daily) n)
-      (interval-most (w .positions) n 13815826560 (totalIn (w .positions) (w .daily))
+      table-most 4392 13815826560 (totalAt ps (w .daily) n)
+      (interval-most ps n 13815826560 (totalIn ps (w .daily))
       (λ i h. le-trans (sum-within (w .daily) mostDaily _ _ (daily-most (axisYears (historyOfSite t)) (w .daily) d)) (omega (arith, r .below (i + 1) h))))

@@ -13,28 +13,26 @@ use Rattle.calendar.specs.Places.{hasDate}
 use Rattle.calendar.specs.Spans.{among, axisYears, yearAt, placeAt}
 use Rattle.calendar.proofs.Tables.{and-left, and-right}
 use Rattle.calendar.proofs.Laws.Positions.{among-words, has-history, axis-bounds, axis-range}
-use Rattle.meaning.specs.Filing.{Site, Reading, reading, axisOf, historyOf}
-use Rattle.meaning.specs.Line.{kindOfLetter, mostIndex, isKind}
+use Rattle.meaning.specs.Filing.{Site, Reading, axisOf, historyOf}
+use Rattle.meaning.specs.Line.{mostIndex, isKind}
 use Rattle.meaning.specs.Validity.{Interval, intervals}
-use Rattle.meaning.specs.Blocks.{World, sizesFit, pointsSize, slotsSize, dailySize, readingsSize, readingsOf}
+use Rattle.meaning.specs.Blocks.{World, sizesFit, pointsSize, slotsSize, dailySize, readingsOf}
 use Rattle.meaning.specs.Record.{Tallies, historyOfSite, readingFits, readingsFit, filingHeld, byYear}
+use Rattle.readings.specs.Columns.{readingIn, readingsIn, Columned}
 use Rattle.intervals.specs.Columns.{opens, closes, Rising, Counting}
 use Rattle.lists.proofs.Ranges.{all-tab, map-tab, neighbours-tab, each-of-range}
 
-abbrev pub readingAt : World → ℕ → Reading
-readingAt w i = reading (getD (w .positions) i 0) (getD (w .indexes) i 0) (kindOfLetter (getD (w .kinds) i 69))
-
-abbrev pub intervalOf : World → ℕ → Interval
-intervalOf w i = record { from = readingAt w i; to = readingAt w (i + 1) }
+abbrev pub intervalOf : List ℕ → List ℕ → List ℕ → ℕ → Interval
+intervalOf ps xs ks i = record { from = readingIn ps xs ks i; to = readingIn ps xs ks (i + 1) }
 
 -- ---- what the readings of 1 are like
-pub record Fits (axis : Years) (w : World) (n : ℕ) : Type 0 where
+pub record Fits (axis : Years) (ps xs : List ℕ) (n : ℕ) : Type 0 where
   -- a date of an axis year
-  pub year : (i : ℕ) → i < n → getD (w .positions) i 0 / 366 < axis .count
-  pub dated : (i : ℕ) → i < n → T (hasDate (yearAt axis (getD (w .positions) i 0)) (placeAt (getD (w .positions) i 0)))
-  pub rises : (i : ℕ) → i + 1 < n → opens (w .positions) i < closes (w .positions) i
-  pub climbs : (i : ℕ) → i + 1 < n → opens (w .indexes) i ≤ closes (w .indexes) i
-  pub most : (i : ℕ) → i < n → getD (w .indexes) i 0 ≤ 1000000000000
+  pub year : (i : ℕ) → i < n → getD ps i 0 / 366 < axis .count
+  pub dated : (i : ℕ) → i < n → T (hasDate (yearAt axis (getD ps i 0)) (placeAt (getD ps i 0)))
+  pub rises : (i : ℕ) → i + 1 < n → opens ps i < closes ps i
+  pub climbs : (i : ℕ) → i + 1 < n → opens xs i ≤ closes xs i
+  pub most : (i : ℕ) → i < n → getD xs i 0 ≤ 1000000000000
 
 fit-index : (axis : Years) (r : Reading) → T (readingFits axis r) → r .index ≤ mostIndex
 unfolding readingFits
@@ -50,69 +48,69 @@ fit-place axis r t =
     let u = and-left (a && d) (leb (r .index) mostIndex && isKind (r .kind)) t in
     (and-left a d u, and-right a d u)
 
-pub fits : (axis : Years) (w : World) (n : ℕ) → T (readingsFit axis (readingsOf w n)) → Fits axis w n
-unfolding readingsFit readingsOf
-fits axis w n t = record { year = λ i h. in-axis i (one i h); dated = λ i h. fit-place axis (readingAt w i) (one i h) .1; rises = λ i h. order i (two i h); climbs = λ i h. count i (two i h); most = λ i h. fit-index axis (readingAt w i) (one i h) }
+fits-in : (axis : Years) (ps xs ks : List ℕ) (n : ℕ) → T (readingsFit axis (readingsIn ps xs ks n)) → Fits axis ps xs n
+unfolding readingsFit readingsIn
+fits-in axis ps xs ks n t = record {
+  year = λ i h. in-axis i (one i h);
+  dated = λ i h. fit-place axis (readingIn ps xs ks i) (one i h) .1;
+  rises = λ i h. order i (two i h);
+  climbs = λ i h. count i (two i h);
+  most = λ i h. fit-index axis (readingIn ps xs ks i) (one i h);
+}
   where
     pair : Reading × Reading → Bool
     pair p = ltb (p .0 .position) (p .1 .position) && leb (p .0 .index) (p .1 .index)
 
-    one : (i : ℕ) → i < n → T (readingFits axis (readingAt w i))
+    one : (i : ℕ) → i < n → T (readingFits axis (readingIn ps xs ks i))
     one i h =
-        each-of-range (λ j. readingFits axis (readingAt w j)) n 0
-        (rw (all-tab (readingFits axis) n 0 (readingAt w)) at (and-left (all (readingFits axis) (tab n 0 (readingAt w))) (all pair (neighbours (tab n 0 (readingAt w)))) t)) i (omega arith) (omega arith)
+        each-of-range (λ j. readingFits axis (readingIn ps xs ks j)) n 0
+        (rw (all-tab (readingFits axis) n 0 (readingIn ps xs ks)) at (and-left (all (readingFits axis) (tab n 0 (readingIn ps xs ks))) (all pair (neighbours (tab n 0 (readingIn ps xs ks)))) t)) i (omega arith) (omega arith)
 
-    two : (i : ℕ) → i + 1 < n → T (pair (readingAt w i, readingAt w (i + 1)))
+    two : (i : ℕ) → i + 1 < n → T (pair (readingIn ps xs ks i, readingIn ps xs ks (i + 1)))
     two i h =
-        each-of-range (λ j. pair (readingAt w j, readingAt w (j + 1))) (n - 1) 0
-        (rw (neighbours-tab n 0 (readingAt w), all-tab pair (n - 1) 0 (λ j. (readingAt w j, readingAt w (j + 1)))) at
-        (and-right (all (readingFits axis) (tab n 0 (readingAt w))) (all pair (neighbours (tab n 0 (readingAt w)))) t)) i (omega arith) (omega arith)
+        each-of-range (λ j. pair (readingIn ps xs ks j, readingIn ps xs ks (j + 1))) (n - 1) 0
+        (rw (neighbours-tab n 0 (readingIn ps xs ks), all-tab pair (n - 1) 0 (λ j. (readingIn ps xs ks j, readingIn ps xs ks (j + 1)))) at
+        (and-right (all (readingFits axis) (tab n 0 (readingIn ps xs ks))) (all pair (neighbours (tab n 0 (readingIn ps xs ks)))) t)) i (omega arith) (omega arith)
 
-    in-axis : (i : ℕ) → T (readingFits axis (readingAt w i)) → getD (w .positions) i 0 / 366 < axis .count
-    in-axis i u = unfold yearAt in (omega (arith, among-words axis (yearAt axis (getD (w .positions) i 0)) .0 (fit-place axis (readingAt w i) u .0)))
+    in-axis : (i : ℕ) → T (readingFits axis (readingIn ps xs ks i)) → getD ps i 0 / 366 < axis .count
+    in-axis i u = unfold yearAt in (omega (arith, among-words axis (yearAt axis (getD ps i 0)) .0 (fit-place axis (readingIn ps xs ks i) u .0)))
 
-    order : (i : ℕ) → T (pair (readingAt w i, readingAt w (i + 1))) → opens (w .positions) i < closes (w .positions) i
-    order i u = ltb→lt _ _ (and-left (ltb (opens (w .positions) i) (closes (w .positions) i)) _ u)
+    order : (i : ℕ) → T (pair (readingIn ps xs ks i, readingIn ps xs ks (i + 1))) → opens ps i < closes ps i
+    order i u = ltb→lt _ _ (and-left (ltb (opens ps i) (closes ps i)) _ u)
 
-    count : (i : ℕ) → T (pair (readingAt w i, readingAt w (i + 1))) → opens (w .indexes) i ≤ closes (w .indexes) i
-    count i u = leb→le _ _ (and-right (ltb (opens (w .positions) i) (closes (w .positions) i)) _ u)
+    count : (i : ℕ) → T (pair (readingIn ps xs ks i, readingIn ps xs ks (i + 1))) → opens xs i ≤ closes xs i
+    count i u = leb→le _ _ (and-right (ltb (opens ps i) (closes ps i)) _ u)
+
+pub fits : {w : World} {n : ℕ} {ps xs ks : List ℕ} (axis : Years) → Columned w n ps xs ks → T (readingsFit axis (readingsOf w n)) → Fits axis ps xs n
+fits {n = n} {ps = ps} {xs = xs} {ks = ks} axis cols t = fits-in axis ps xs ks n (rw (cols .read) at t)
 
 -- ---- the columns of a site's readings, which the functions ask for
-sizes : (w : World) → T (sizesFit w) → (length (w .positions) ≡ 600) × (length (w .indexes) ≡ 600) × (length (w .kinds) ≡ 600) × (length (w .daily) ≡ 4392)
+module _ (t : Site) (n : ℕ) (w : World) {ps xs ks : List ℕ} (cols : Columned w n ps xs ks) (few : n ≤ 600) where
+  module _ (fit : T (readingsFit (axisYears (historyOfSite t)) (readingsOf w n))) where
+    pub columns-rise : Rising ps n
+    unfolding historyOfSite
+    columns-rise =
+        let f = fits (axisYears (historyOfSite t)) cols fit in
+        let short = axis-range (t .al) (t .filiere) .short in
+        record {
+          held = omega (arith, cols .positions);
+          below = λ i h. omega (arith, f .year i h);
+          rises = f .rises;
+        }
+
+    pub columns-count : Counting xs n
+    columns-count = record { held = omega (arith, cols .indexes); climbs = fits (axisYears (historyOfSite t)) cols fit .climbs }
+
+  pub columns-kinds : n ≤ length ks
+  columns-kinds = omega (arith, cols .kinds)
+
+pub columns-daily : (w : World) → T (sizesFit w) → length (w .daily) ≡ 4392
 unfolding sizesFit
-sizes w t =
+columns-daily w t =
     let a = and-right (eqb (length (w .near)) pointsSize) _ t in
     let b = and-right (eqb (length (w .far)) pointsSize) _ a in
     let c = and-right (eqb (length (w .slots)) slotsSize) _ b in
-    let d = and-right (eqb (length (w .daily)) dailySize) _ c in
-    let e = and-right (eqb (length (w .positions)) readingsSize) _ d in
-    let f = and-right (eqb (length (w .indexes)) readingsSize) _ e in (
-      eqb→eq _ _ (and-left (eqb (length (w .positions)) readingsSize) _ d),
-      eqb→eq _ _ (and-left (eqb (length (w .indexes)) readingsSize) _ e),
-      eqb→eq _ _ (and-left (eqb (length (w .kinds)) readingsSize) _ f),
-      eqb→eq _ _ (and-left (eqb (length (w .daily)) dailySize) _ c),
-    )
-
-module _ (t : Site) (n : ℕ) (w : World) (few : n ≤ 600) (sized : T (sizesFit w)) (fit : T (readingsFit (axisYears (historyOfSite t)) (readingsOf w n))) where
-  pub columns-rise : Rising (w .positions) n
-  unfolding historyOfSite
-  columns-rise =
-      let f = fits (axisYears (historyOfSite t)) w n fit in
-      let short = axis-range (t .al) (t .filiere) .short in
-      record {
-        held = omega (arith, sizes w sized .0);
-        below = λ i h. omega (arith, f .year i h);
-        rises = f .rises;
-      }
-
-  pub columns-count : Counting (w .indexes) n
-  columns-count = record { held = omega (arith, sizes w sized .1); climbs = fits (axisYears (historyOfSite t)) w n fit .climbs }
-
-  pub columns-kinds : n ≤ length (w .kinds)
-  columns-kinds = omega (arith, sizes w sized .2)
-
-  pub columns-daily : length (w .daily) ≡ 4392
-  columns-daily = sizes w sized .3
+    eqb→eq _ _ (and-left (eqb (length (w .daily)) dailySize) _ c)
 
 -- ---- years of a filing held
 module _ (t : Site) (n : ℕ) (k : Tallies) (e : Bool) (w : World) where
@@ -125,11 +123,12 @@ module _ (t : Site) (n : ℕ) (k : Tallies) (e : Bool) (w : World) where
   axis-held = refl
 
   -- the intervals, by number
-  pub intervals-held : intervals (filingHeld t n k e w) ≡ tab (n - 1) 0 (intervalOf w)
-  unfolding intervals filingHeld readingsOf
-  intervals-held =
-      ap (map (λ (p : Reading × Reading). record { from = p .0; to = p .1 })) (neighbours-tab n 0 (readingAt w))
-      ∙ map-tab (λ (p : Reading × Reading). record { from = p .0; to = p .1 }) (n - 1) 0 (λ i. (readingAt w i, readingAt w (i + 1)))
+  pub intervals-held : {ps xs ks : List ℕ} → Columned w n ps xs ks → intervals (filingHeld t n k e w) ≡ tab (n - 1) 0 (intervalOf ps xs ks)
+  unfolding intervals filingHeld readingsIn
+  intervals-held {ps} {xs} {ks} cols =
+      ap (λ (rs : List Reading). map (λ (p : Reading × Reading). record { from = p .0; to = p .1 }) (neighbours rs)) (cols .read)
+      ∙ ap (map (λ (p : Reading × Reading). record { from = p .0; to = p .1 })) (neighbours-tab n 0 (readingIn ps xs ks))
+      ∙ map-tab (λ (p : Reading × Reading). record { from = p .0; to = p .1 }) (n - 1) 0 (λ i. (readingIn ps xs ks i, readingIn ps xs ks (i + 1)))
 
 -- the j-th history year is year j + 1 of the axis
 pub axis-row : (t : Site) (j : ℕ) → j < historyOfSite t .count → axisYears (historyOfSite t) .first + 1 ≡ historyOfSite t .first

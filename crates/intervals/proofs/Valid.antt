@@ -18,6 +18,7 @@ use Rattle.meaning.specs.Filing.{Site, Filing, axisOf, yearOf}
 use Rattle.meaning.specs.Validity.{intervals, hasDay, isWinterDay, overlapsWinter, winterDays, isCovered, isSound, indexValid}
 use Rattle.meaning.specs.Blocks.{World, readingsOf}
 use Rattle.meaning.specs.Record.{Tallies, historyOfSite, readingsFit, filingHeld}
+use Rattle.readings.specs.Columns.{Columned}
 use Rattle.intervals.specs.Columns.{opens, closes, january, meetsWinter, isSet, Rising}
 use Rattle.intervals.specs.Index.{coversYear, isTrustedAt, isSoundAt, isSoundYear, validIndex}
 use Rattle.intervals.specs.Days.{isAround}
@@ -58,10 +59,10 @@ unless true b f = f tt
 unless false b f = tt
 
 -- ---- cover, by the first reading and the last
-module _ (F : Filing) (w : World) (n y s : ℕ) (r : Rising (w .positions) n) (from : axisOf F .first ≤ y) (row : s ≡ 366 * (y - axisOf F .first)) (read : intervals F ≡ tab (n - 1) 0 (intervalOf w)) where
-  around-day : (p : ℕ) → any (λ v. hasDay v p) (intervals F) ≡ any (isAround (w .positions) p) (range 0 (n - 1))
+module _ (F : Filing) (ps xs ks : List ℕ) (n y s : ℕ) (r : Rising ps n) (from : axisOf F .first ≤ y) (row : s ≡ 366 * (y - axisOf F .first)) (read : intervals F ≡ tab (n - 1) 0 (intervalOf ps xs ks)) where
+  around-day : (p : ℕ) → any (λ v. hasDay v p) (intervals F) ≡ any (isAround ps p) (range 0 (n - 1))
   unfolding hasDay isAround
-  around-day p = rw read (any-tab (λ v. hasDay v p) (n - 1) 0 (intervalOf w))
+  around-day p = rw read (any-tab (λ v. hasDay v p) (n - 1) 0 (intervalOf ps xs ks))
 
   days-test : ℕ → Bool
   days-test p = hasDate y (placeAt p) && isWinterDay F y p
@@ -70,15 +71,12 @@ module _ (F : Filing) (w : World) (n y s : ℕ) (r : Rising (w .positions) n) (f
   unfolding isCovered winterDays days-test
   covered-words = all-keep (λ p. any (λ v. hasDay v p) (intervals F)) days-test (range (366 * (y - axisOf F .first)) 366)
 
-  pub covered-by-ends : isCovered F y ≡ coversYear (w .positions) n s
+  pub covered-by-ends : isCovered F y ≡ coversYear ps n s
   unfolding coversYear days-test
   covered-by-ends =
       covered-words ∙ same (all (λ p. not (days-test p) || any (λ v. hasDay v p) (intervals F)) (range (366 * (y - axisOf F .first)) 366))
       (ltb 0 n && (leb (getD ps 0 0) s && leb (s + 366) (getD ps (n - 1) 0))) (λ t. words .1 (forth t)) (λ t. back (words .0 t))
     where
-      ps : List ℕ
-      ps = w .positions
-
       words : T (ltb 0 n && (leb (getD ps 0 0) s && leb (s + 366) (getD ps (n - 1) 0))) ↔ ((0 < n) × ((getD ps 0 0 ≤ s) × (s + 366 ≤ getD ps (n - 1) 0)))
       words =
           of-and (ltb 0 n) (leb (getD ps 0 0) s && leb (s + 366) (getD ps (n - 1) 0)) (of-lt 0 n)
@@ -120,12 +118,12 @@ module _ (F : Filing) (w : World) (n y s : ℕ) (r : Rising (w .positions) n) (f
 
 -- ---- the law
 -- a reading stands on a day that there is
-pub dated-held : (t : Site) (n : ℕ) (k : Tallies) (e : Bool) (w : World) → T (readingsFit (axisYears (historyOfSite t)) (readingsOf w n)) → (i : ℕ) → i < n
-    → T (hasDate (yearOf (filingHeld t n k e w) (getD (w .positions) i 0)) (placeAt (getD (w .positions) i 0)))
+pub dated-held : (t : Site) (n : ℕ) (k : Tallies) (e : Bool) (w : World) {ps xs ks : List ℕ} → Columned w n ps xs ks → T (readingsFit (axisYears (historyOfSite t)) (readingsOf w n)) → (i : ℕ) → i < n
+    → T (hasDate (yearOf (filingHeld t n k e w) (getD ps i 0)) (placeAt (getD ps i 0)))
 unfolding yearOf
-dated-held t n k e w fit i h = rw (axis-held t n k e w) (fits (axisYears (historyOfSite t)) w n fit .dated i h)
+dated-held t n k e w cols fit i h = rw (axis-held t n k e w) (fits (axisYears (historyOfSite t)) cols fit .dated i h)
 
-module _ (t : Site) (n : ℕ) (k : Tallies) (e : Bool) (w : World) (rise : Rising (w .positions) n) (fit : T (readingsFit (axisYears (historyOfSite t)) (readingsOf w n))) (j : ℕ) (year : j < historyOfSite t .count) where
+module _ (t : Site) (n : ℕ) (k : Tallies) (e : Bool) (w : World) {ps xs ks : List ℕ} (cols : Columned w n ps xs ks) (rise : Rising ps n) (fit : T (readingsFit (axisYears (historyOfSite t)) (readingsOf w n))) (j : ℕ) (year : j < historyOfSite t .count) where
   in-axis : axisOf (filingHeld t n k e w) .first ≤ historyOfSite t .first + j
   in-axis = rw (axis-held t n k e w) (omega (arith, axis-row t j year))
 
@@ -133,33 +131,33 @@ module _ (t : Site) (n : ℕ) (k : Tallies) (e : Bool) (w : World) (rise : Risin
   in-row = rw (axis-held t n k e w) (omega (arith, axis-row t j year))
 
   -- an interval of the columns overlaps the winter by its ends
-  pub overlap-held : (i : ℕ) → i + 1 < n → overlapsWinter (filingHeld t n k e w) (historyOfSite t .first + j) (intervalOf w i) ≡ meetsWinter (january j) (opens (w .positions) i) (closes (w .positions) i)
+  pub overlap-held : (i : ℕ) → i + 1 < n → overlapsWinter (filingHeld t n k e w) (historyOfSite t .first + j) (intervalOf ps xs ks i) ≡ meetsWinter (january j) (opens ps i) (closes ps i)
   overlap-held i h =
-      overlap-by-ends (filingHeld t n k e w) (historyOfSite t .first + j) (january j) in-axis in-row (intervalOf w i) (rise .rises i h) (dated-held t n k e w fit i (omega arith))
+      overlap-by-ends (filingHeld t n k e w) (historyOfSite t .first + j) (january j) in-axis in-row (intervalOf ps xs ks i) (rise .rises i h) (dated-held t n k e w cols fit i (omega arith))
 
-  sound-held : all (λ v. not (overlapsWinter (filingHeld t n k e w) (historyOfSite t .first + j) v) || isSound v) (intervals (filingHeld t n k e w)) ≡ isSoundYear (w .positions) (w .kinds) n (january j)
+  sound-held : all (λ v. not (overlapsWinter (filingHeld t n k e w) (historyOfSite t .first + j) v) || isSound v) (intervals (filingHeld t n k e w)) ≡ isSoundYear ps ks n (january j)
   unfolding isSoundYear isSoundAt isTrustedAt isSound
   sound-held =
-      rw (intervals-held t n k e w)
-      (all-tab (λ v. not (overlapsWinter (filingHeld t n k e w) (historyOfSite t .first + j) v) || isSound v) (n - 1) 0 (intervalOf w)
-      ∙ all-same (λ i. not (overlapsWinter (filingHeld t n k e w) (historyOfSite t .first + j) (intervalOf w i)) || isSound (intervalOf w i)) (isSoundAt (w .positions) (w .kinds) (january j)) (n - 1) 0
-      (λ i a b. ap (λ (o : Bool). not o || isSound (intervalOf w i)) (overlap-held i (omega arith))))
+      rw (intervals-held t n k e w cols)
+      (all-tab (λ v. not (overlapsWinter (filingHeld t n k e w) (historyOfSite t .first + j) v) || isSound v) (n - 1) 0 (intervalOf ps xs ks)
+      ∙ all-same (λ i. not (overlapsWinter (filingHeld t n k e w) (historyOfSite t .first + j) (intervalOf ps xs ks i)) || isSound (intervalOf ps xs ks i)) (isSoundAt ps ks (january j)) (n - 1) 0
+      (λ i a b. ap (λ (o : Bool). not o || isSound (intervalOf ps xs ks i)) (overlap-held i (omega arith))))
 
   broken-held : filingHeld t n k e w .broken (historyOfSite t .first + j) ≡ isSet (k .breaks) j
   unfolding filingHeld isSet
   broken-held = ap (λ (b : ℕ). not (eqb b 0)) (by-year (historyOfSite t) (k .breaks) j year)
 
-  pub index-valid-held : indexValid (filingHeld t n k e w) (historyOfSite t .first + j) ≡ validIndex (w .positions) (w .kinds) n j (isSet (k .breaks) j)
+  pub index-valid-held : indexValid (filingHeld t n k e w) (historyOfSite t .first + j) ≡ validIndex ps ks n j (isSet (k .breaks) j)
   unfolding indexValid validIndex
   index-valid-held =
-      rw (broken-held, covered-by-ends (filingHeld t n k e w) w n (historyOfSite t .first + j) (january j) rise in-axis in-row (intervals-held t n k e w), sound-held)
+      rw (broken-held, covered-by-ends (filingHeld t n k e w) ps xs ks n (historyOfSite t .first + j) (january j) rise in-axis in-row (intervals-held t n k e w cols), sound-held)
 
 -- the same of a year of the history
-pub index-valid-year : (t : Site) (n : ℕ) (k : Tallies) (e : Bool) (w : World) → Rising (w .positions) n → T (readingsFit (axisYears (historyOfSite t)) (readingsOf w n))
+pub index-valid-year : (t : Site) (n : ℕ) (k : Tallies) (e : Bool) (w : World) {ps xs ks : List ℕ} → Columned w n ps xs ks → Rising ps n → T (readingsFit (axisYears (historyOfSite t)) (readingsOf w n))
     → (y : ℕ) → T (among (historyOfSite t) y)
-    → indexValid (filingHeld t n k e w) y ≡ validIndex (w .positions) (w .kinds) n (y - historyOfSite t .first) (isSet (k .breaks) (y - historyOfSite t .first))
-index-valid-year t n k e w rise fit y h =
+    → indexValid (filingHeld t n k e w) y ≡ validIndex ps ks n (y - historyOfSite t .first) (isSet (k .breaks) (y - historyOfSite t .first))
+index-valid-year t n k e w {ps} {xs} {ks} cols rise fit y h =
     let b = among-words (historyOfSite t) y .0 h in
     let j = y - historyOfSite t .first in
-    subst (λ (z : ℕ). indexValid (filingHeld t n k e w) z ≡ validIndex (w .positions) (w .kinds) n j (isSet (k .breaks) j)) (omega arith)
-    (index-valid-held t n k e w rise fit j (omega arith))
+    subst (λ (z : ℕ). indexValid (filingHeld t n k e w) z ≡ validIndex ps ks n j (isSet (k .breaks) j)) (omega arith)
+    (index-valid-held t n k e w cols rise fit j (omega arith))

@@ -18,6 +18,7 @@ use Rattle.meaning.specs.Cases.{caseOf, isDefault}
 use Rattle.meaning.specs.Closing.{partial, lacking, zeroTotal, lacks, isPartial, allWinterDates, allDates, someWinterInterval, lacksProfile, lacksDaily}
 use Rattle.meaning.specs.Blocks.{World, readingsOf}
 use Rattle.meaning.specs.Record.{Tallies, historyOfSite, readingsFit, filingHeld}
+use Rattle.readings.specs.Columns.{Columned}
 use Rattle.intervals.specs.Columns.{opens, closes, january, meetsWinter, isSet, Rising}
 use Rattle.intervals.specs.Days.{totalIn, ofInterval, totalAt, totalsOf}
 use Rattle.lacks.specs.Closing.{somePartial, partialDates, lacksProfileAt, lacksProfiles, someIn, someWinter, missesBetween, missesDays, totalsZero}
@@ -76,52 +77,52 @@ module _ (t : Site) (n : ℕ) (k : Tallies) (e : Bool) (w : World) where
       (λ j a b. rw (v j (omega arith), d j (omega arith), profile-dates j (omega arith)))
 
   -- ---- 16 and 17: the intervals that a valid index year is profiled from
-  module _ (rise : Rising (w .positions) n) (fit : T (readingsFit (axisYears (historyOfSite t)) (readingsOf w n))) (valid : List ℕ)
+  module _ {ps xs ks : List ℕ} (cols : Columned w n ps xs ks) (rise : Rising ps n) (fit : T (readingsFit (axisYears (historyOfSite t)) (readingsOf w n))) (valid : List ℕ)
       (marks : (j : ℕ) → j < historyOfSite t .count → isSet valid j ≡ indexValid (filingHeld t n k e w) (historyOfSite t .first + j)) where
-    pub some-held : (p : Interval → Bool) (q : ℕ → Bool) → ((i : ℕ) → i + 1 < n → p (intervalOf w i) ≡ q i)
-        → someWinterInterval (filingHeld t n k e w) p ≡ someWinter (historyOfSite t .count) valid (w .positions) n q
+    pub some-held : (p : Interval → Bool) (q : ℕ → Bool) → ((i : ℕ) → i + 1 < n → p (intervalOf ps xs ks i) ≡ q i)
+        → someWinterInterval (filingHeld t n k e w) p ≡ someWinter (historyOfSite t .count) valid ps n q
     unfolding someWinterInterval someWinter someIn
     some-held p q f =
         let F = filingHeld t n k e w in
         let h = historyOfSite t in
         let one : ℕ → Interval → Bool = λ y v. overlapsWinter F y v && p v in
         history-list (λ y. indexValid F y && any (one y) (intervals F))
-        ∙ any-same (λ j. indexValid F (h .first + j) && any (one (h .first + j)) (intervals F)) (λ j. isSet valid j && someIn (w .positions) n q (january j)) (h .count) 0
+        ∙ any-same (λ j. indexValid F (h .first + j) && any (one (h .first + j)) (intervals F)) (λ j. isSet valid j && someIn ps n q (january j)) (h .count) 0
         (λ j a b. let l : j < h .count = omega arith in
-        rw (intervals-held t n k e w, marks j l, any-tab (one (h .first + j)) (n - 1) 0 (intervalOf w))
+        rw (intervals-held t n k e w cols, marks j l, any-tab (one (h .first + j)) (n - 1) 0 (intervalOf ps xs ks))
         (ap (λ (o : Bool). indexValid F (h .first + j) && o)
-        (any-same (λ i. one (h .first + j) (intervalOf w i)) (λ i. meetsWinter (january j) (opens (w .positions) i) (closes (w .positions) i) && q i) (n - 1) 0
-        (λ i c d. ap₂ (λ (x y : Bool). x && y) (overlap-held t n k e w rise fit j l i (omega arith)) (f i (omega arith))))))
+        (any-same (λ i. one (h .first + j) (intervalOf ps xs ks i)) (λ i. meetsWinter (january j) (opens ps i) (closes ps i) && q i) (n - 1) 0
+        (λ i c d. ap₂ (λ (x y : Bool). x && y) (overlap-held t n k e w cols rise fit j l i (omega arith)) (f i (omega arith))))))
 
     -- 17
-    zero-at : (i : ℕ) → i + 1 < n → eqb (totalOf (filingHeld t n k e w) (intervalOf w i)) 0 ≡ totalsZero (w .positions) (totalsOf (w .positions) (w .daily) n) i
+    zero-at : (i : ℕ) → i + 1 < n → eqb (totalOf (filingHeld t n k e w) (intervalOf ps xs ks i)) 0 ≡ totalsZero ps (totalsOf ps (w .daily) n) i
     unfolding totalsZero totalsOf totalAt
     zero-at i h =
         ap (λ (m : ℕ). eqb m 0)
-        (total-held t n k e w fit i h
-        ∙ sym (getD-tab0 4392 (totalAt (w .positions) (w .daily) n) (opens (w .positions) i) 0 (rise .below i (omega arith))
-        ∙ ap (ofInterval (totalIn (w .positions) (w .daily))) (around-here (w .positions) n rise i (opens (w .positions) i) h (omega arith) (rise .rises i h))))
+        (total-held t n k e w cols fit i h
+        ∙ sym (getD-tab0 4392 (totalAt ps (w .daily) n) (opens ps i) 0 (rise .below i (omega arith))
+        ∙ ap (ofInterval (totalIn ps (w .daily))) (around-here ps n rise i (opens ps i) h (omega arith) (rise .rises i h))))
 
-    pub zero-held : lacks zeroTotal (filingHeld t n k e w) ≡ someWinter (historyOfSite t .count) valid (w .positions) n (totalsZero (w .positions) (totalsOf (w .positions) (w .daily) n))
+    pub zero-held : lacks zeroTotal (filingHeld t n k e w) ≡ someWinter (historyOfSite t .count) valid ps n (totalsZero ps (totalsOf ps (w .daily) n))
     unfolding lacks
-    zero-held = some-held (λ v. eqb (totalOf (filingHeld t n k e w) v) 0) (totalsZero (w .positions) (totalsOf (w .positions) (w .daily) n)) zero-at
+    zero-held = some-held (λ v. eqb (totalOf (filingHeld t n k e w) v) 0) (totalsZero ps (totalsOf ps (w .daily) n)) zero-at
 
     -- 16: an interval touches the axis years from its first day's to its last day's
-    touch-held : (i : ℕ) → i + 1 < n → (j : ℕ) → T (touches (filingHeld t n k e w) (axisYears (historyOfSite t) .first + j) (intervalOf w i))
-        ↔ ((opens (w .positions) i / 366 ≤ j) × (j ≤ (closes (w .positions) i - 1) / 366))
+    touch-held : (i : ℕ) → i + 1 < n → (j : ℕ) → T (touches (filingHeld t n k e w) (axisYears (historyOfSite t) .first + j) (intervalOf ps xs ks i))
+        ↔ ((opens ps i / 366 ≤ j) × (j ≤ (closes ps i - 1) / 366))
     touch-held i h j =
         let a = axis-held t n k e w in
         let row : axisYears (historyOfSite t) .first + j - axisOf (filingHeld t n k e w) .first ≡ j = rw a (omega arith) in
-        let ends = touch-by-ends (filingHeld t n k e w) (axisYears (historyOfSite t) .first + j) (366 * j) (rw a (omega arith)) (rw a (omega arith)) (intervalOf w i) (rise .rises i h) (dated-held t n k e w fit i (omega arith)) in
+        let ends = touch-by-ends (filingHeld t n k e w) (axisYears (historyOfSite t) .first + j) (366 * j) (rw a (omega arith)) (rw a (omega arith)) (intervalOf ps xs ks i) (rise .rises i h) (dated-held t n k e w cols fit i (omega arith)) in
         (λ u. (omega (arith, ends .0 u .0), omega (arith, ends .0 u .1)), λ r. ends .1 (omega (arith, r .0), omega (arith, r .1)))
 
-    misses-at : (i : ℕ) → i + 1 < n → lacksDaily (filingHeld t n k e w) (intervalOf w i) ≡ missesDays (w .positions) (k .dailyDates) i
+    misses-at : (i : ℕ) → i + 1 < n → lacksDaily (filingHeld t n k e w) (intervalOf ps xs ks i) ≡ missesDays ps (k .dailyDates) i
     unfolding lacksDaily missesDays missesBetween
     misses-at i h =
-        axis-list (λ z. eqb (F .dailyDates z) 0 && touches F z (intervalOf w i))
-        ∙ any-same (λ j. eqb (F .dailyDates (a .first + j)) 0 && touches F (a .first + j) (intervalOf w i)) (λ j. gone j && touches F (a .first + j) (intervalOf w i)) (a .count) 0
-        (λ j b c. ap (λ (m : ℕ). eqb m 0 && touches F (a .first + j) (intervalOf w i)) (daily-dates j (omega arith)))
-        ∙ same (any (λ j. gone j && touches F (a .first + j) (intervalOf w i)) (range 0 (a .count))) (any gone (range (p / 366) ((q - 1) / 366 + 1 - p / 366))) forth back
+        axis-list (λ z. eqb (F .dailyDates z) 0 && touches F z (intervalOf ps xs ks i))
+        ∙ any-same (λ j. eqb (F .dailyDates (a .first + j)) 0 && touches F (a .first + j) (intervalOf ps xs ks i)) (λ j. gone j && touches F (a .first + j) (intervalOf ps xs ks i)) (a .count) 0
+        (λ j b c. ap (λ (m : ℕ). eqb m 0 && touches F (a .first + j) (intervalOf ps xs ks i)) (daily-dates j (omega arith)))
+        ∙ same (any (λ j. gone j && touches F (a .first + j) (intervalOf ps xs ks i)) (range 0 (a .count))) (any gone (range (p / 366) ((q - 1) / 366 + 1 - p / 366))) forth back
       where
         F : Filing
         F = filingHeld t n k e w
@@ -130,38 +131,38 @@ module _ (t : Site) (n : ℕ) (k : Tallies) (e : Bool) (w : World) where
         a = axisYears (historyOfSite t)
 
         p : ℕ
-        p = opens (w .positions) i
+        p = opens ps i
 
         q : ℕ
-        q = closes (w .positions) i
+        q = closes ps i
 
         gone : ℕ → Bool
         gone j = eqb (getD (k .dailyDates) j 0) 0
 
-        facts : Fits a w n
-        facts = fits a w n fit
+        facts : Fits a ps xs n
+        facts = fits a cols fit
 
-        row : (j : ℕ) → T (touches F (a .first + j) (intervalOf w i)) ↔ ((p / 366 ≤ j) × (j ≤ (q - 1) / 366))
+        row : (j : ℕ) → T (touches F (a .first + j) (intervalOf ps xs ks i)) ↔ ((p / 366 ≤ j) × (j ≤ (q - 1) / 366))
         row j = touch-held i h j
 
-        forth : T (any (λ j. gone j && touches F (a .first + j) (intervalOf w i)) (range 0 (a .count))) → T (any gone (range (p / 366) ((q - 1) / 366 + 1 - p / 366)))
+        forth : T (any (λ j. gone j && touches F (a .first + j) (intervalOf ps xs ks i)) (range 0 (a .count))) → T (any gone (range (p / 366) ((q - 1) / 366 + 1 - p / 366)))
         forth u =
-            let s = some-of-range (λ j. gone j && touches F (a .first + j) (intervalOf w i)) (a .count) 0 u in
-            let r = row (s .0) .0 (and-right (gone (s .0)) (touches F (a .first + s .0) (intervalOf w i)) (s .3)) in
-            range-some gone ((q - 1) / 366 + 1 - p / 366) (p / 366) (s .0) (r .0) (omega (arith, r .0, r .1)) (and-left (gone (s .0)) (touches F (a .first + s .0) (intervalOf w i)) (s .3))
+            let s = some-of-range (λ j. gone j && touches F (a .first + j) (intervalOf ps xs ks i)) (a .count) 0 u in
+            let r = row (s .0) .0 (and-right (gone (s .0)) (touches F (a .first + s .0) (intervalOf ps xs ks i)) (s .3)) in
+            range-some gone ((q - 1) / 366 + 1 - p / 366) (p / 366) (s .0) (r .0) (omega (arith, r .0, r .1)) (and-left (gone (s .0)) (touches F (a .first + s .0) (intervalOf ps xs ks i)) (s .3))
 
-        back : T (any gone (range (p / 366) ((q - 1) / 366 + 1 - p / 366))) → T (any (λ j. gone j && touches F (a .first + j) (intervalOf w i)) (range 0 (a .count)))
+        back : T (any gone (range (p / 366) ((q - 1) / 366 + 1 - p / 366))) → T (any (λ j. gone j && touches F (a .first + j) (intervalOf ps xs ks i)) (range 0 (a .count)))
         back u =
             let s = some-of-range gone ((q - 1) / 366 + 1 - p / 366) (p / 366) u in
-            range-some (λ j. gone j && touches F (a .first + j) (intervalOf w i)) (a .count) 0 (s .0) (omega arith) (omega (arith, s .1, s .2, facts .year (i + 1) h, facts .rises i h))
-            (and-both (gone (s .0)) (touches F (a .first + s .0) (intervalOf w i)) (s .3) (row (s .0) .1 (s .1, omega (arith, s .1, s .2))))
+            range-some (λ j. gone j && touches F (a .first + j) (intervalOf ps xs ks i)) (a .count) 0 (s .0) (omega arith) (omega (arith, s .1, s .2, facts .year (i + 1) h, facts .rises i h))
+            (and-both (gone (s .0)) (touches F (a .first + s .0) (intervalOf ps xs ks i)) (s .3) (row (s .0) .1 (s .1, omega (arith, s .1, s .2))))
 
-    pub daily-held : someWinterInterval (filingHeld t n k e w) (lacksDaily (filingHeld t n k e w)) ≡ someWinter (historyOfSite t .count) valid (w .positions) n (missesDays (w .positions) (k .dailyDates))
-    daily-held = some-held (lacksDaily (filingHeld t n k e w)) (missesDays (w .positions) (k .dailyDates)) misses-at
+    pub daily-held : someWinterInterval (filingHeld t n k e w) (lacksDaily (filingHeld t n k e w)) ≡ someWinter (historyOfSite t .count) valid ps n (missesDays ps (k .dailyDates))
+    daily-held = some-held (lacksDaily (filingHeld t n k e w)) (missesDays ps (k .dailyDates)) misses-at
 
     pub lacking-held : (default : List ℕ)
         → ((j : ℕ) → j < historyOfSite t .count → isSet default j ≡ isDefault (caseOf (filingHeld t n k e w) (historyOfSite t .first + j)))
         → lacks lacking (filingHeld t n k e w)
-        ≡ (lacksProfiles (historyOfSite t .count) valid default (k .profileDates) || someWinter (historyOfSite t .count) valid (w .positions) n (missesDays (w .positions) (k .dailyDates)))
+        ≡ (lacksProfiles (historyOfSite t .count) valid default (k .profileDates) || someWinter (historyOfSite t .count) valid ps n (missesDays ps (k .dailyDates)))
     unfolding lacks
     lacking-held default d = ap₂ (λ (x y : Bool). x || y) (profiles-held valid default marks d) daily-held

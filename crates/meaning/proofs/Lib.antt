@@ -1,11 +1,3 @@
 pub mod Passed
 pub mod Accepted
-pub mod Held
-pub mod Bound
-pub mod Sane
 pub mod Pins
-pub mod Demand1
-pub mod Demand2
-pub mod Demand3
-pub mod Witness
-pub mod SomePoints

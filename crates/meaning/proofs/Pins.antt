@@ -12,3 +12,4 @@ pub mod Rates
 pub mod Input
 pub mod Calls
 pub mod Examples
+pub mod Stores

@@ -7,18 +7,15 @@ use lib.Dec.{eqb, leb, ltb}
 use lib.ListN.{length, getD, replicate}
 use Rattle.lists.specs.Lists.{tab, orElse}
 use Rattle.meaning.specs.Filing.{Reading, reading, Kind, real, corrected, estimated, strange}
-use Rattle.meaning.specs.Line.{kindOfLetter}
 use Rattle.meaning.specs.Level.{missingEntry}
 
--- every list that a call is lent; the readings are three columns
+-- every list that a call is lent
 pub record World : Type 0 where
   pub near : List ℕ
   pub far : List ℕ
   pub slots : List ℕ
   pub daily : List ℕ
-  pub positions : List ℕ
-  pub indexes : List ℕ
-  pub kinds : List ℕ
+  pub readings : List Reading
   pub curve : List ℕ
 
 abbrev pub missingPoint : ℕ
@@ -46,26 +43,27 @@ curveSize = 4400
 unfoldable pub sizesFit : World → Bool
 sizesFit w =
     eqb (length (w .near)) pointsSize && (eqb (length (w .far)) pointsSize && (eqb (length (w .slots)) slotsSize && (eqb (length (w .daily)) dailySize
-    && (eqb (length (w .positions)) readingsSize && (eqb (length (w .indexes)) readingsSize && (eqb (length (w .kinds)) readingsSize
-    && eqb (length (w .curve)) curveSize))))))
+    && (eqb (length (w .readings)) readingsSize && eqb (length (w .curve)) curveSize))))
 
--- the letter that a kind is kept as
+-- the letter of a kind
 abbrev pub letterOfKind : Kind → ℕ
 letterOfKind real = 82
 letterOfKind corrected = 67
 letterOfKind estimated = 69
 letterOfKind strange = 0
 
--- points and curve missing, profiles and daily sums 0, readings at position 0, count 0, kind E
+-- at position 0, count 0, kind E
+abbrev pub freshReading : Reading
+freshReading = reading 0 0 estimated
+
+-- points and curve missing, profiles and daily sums 0
 unfoldable pub freshWorld : World
 freshWorld = record {
   near = replicate pointsSize missingPoint;
   far = replicate pointsSize missingPoint;
   slots = replicate slotsSize 0;
   daily = replicate dailySize 0;
-  positions = replicate readingsSize 0;
-  indexes = replicate readingsSize 0;
-  kinds = replicate readingsSize 69;
+  readings = replicate readingsSize freshReading;
   curve = replicate curveSize missingEntry;
 }
 
@@ -100,6 +98,6 @@ unfoldable pub codeAt : ℕ → World → ℕ → ℕ → ℕ → ℕ
 codeAt al b y w h =
     cond (isNear al y) (getD (b .near) (nearStart al y + slotAt w h) missingPoint) (getD (b .far) (farStart al y + slotAt w h) missingPoint)
 
--- the first n readings of the columns
+-- the first n readings
 unfoldable pub readingsOf : World → ℕ → List Reading
-readingsOf b n = tab n 0 (λ i. reading (getD (b .positions) i 0) (getD (b .indexes) i 0) (kindOfLetter (getD (b .kinds) i 69)))
+readingsOf b n = tab n 0 (λ i. getD (b .readings) i freshReading)

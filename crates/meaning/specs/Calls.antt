@@ -10,12 +10,12 @@ use Rattle.lists.specs.Lists.{tab}
 use Rattle.calendar.specs.declared.Years.{Years}
 use Rattle.calendar.specs.Spans.{positionOf}
 use Rattle.text.specs.Fields.{fieldAt}
-use Rattle.meaning.specs.Filing.{Site}
+use Rattle.meaning.specs.Filing.{Site, Reading, reading}
 use Rattle.meaning.specs.Line.{Line, Tag, S, C, X, D, P, B, R, rank, is, tagOf, numberAt, yearOn, monthOn, dayOn, siteOn, valueAt, pointOf, kindOf, keyOf, winterOn}
 use Rattle.meaning.specs.Refusals.{Reason, numberOf, refusal}
 use Rattle.meaning.specs.Level.{Report, reportOf, curveOf}
 use Rattle.meaning.specs.Closing.{Lack, lackNumber, closingRefusal}
-use Rattle.meaning.specs.Blocks.{World, sizesFit, freshWorld, codeOfPoint, letterOfKind, isNear, nearStart, farStart, slotsStart, slotAt}
+use Rattle.meaning.specs.Blocks.{World, sizesFit, freshWorld, codeOfPoint, isNear, nearStart, farStart, slotsStart, slotAt}
 use Rattle.meaning.specs.Record.{Rec, Lasts, Tallies, inState, freshRec, isTaken, historyOfRec, axisOfRec, recFits, contentsFit, beforeOf, filingOf}
 
 -- ---- answers: a refusal has document 01's number and the count of lines
@@ -85,6 +85,10 @@ profileValues l = tab 20 0 (valueAt l)
 unfoldable pub positionOn : Years → Line → ℕ
 positionOn axis l = positionOf axis (yearOn l) (monthOn l) (dayOn l)
 
+-- the reading of an X line
+unfoldable pub readingAt : Years → Line → Reading
+readingAt axis l = reading (positionOn axis l) (numberAt l 4) (kindOf (fieldAt l 5))
+
 unfoldable pub worldAfter : Tag → Line → Rec → World → World
 worldAfter t l s w = record {
   near =
@@ -97,9 +101,7 @@ worldAfter t l s w = record {
       (w .far);
   slots = cond (is P t) (sets (w .slots) (slotsStart (historyOfRec s .first) (yearOn l) + slotAt (winterOn l) 0) (profileValues l)) (w .slots);
   daily = cond (is D t) (set (w .daily) (positionOn (axisOfRec s) l) (numberAt l 4)) (w .daily);
-  positions = cond (is X t) (set (w .positions) (s .readings) (positionOn (axisOfRec s) l)) (w .positions);
-  indexes = cond (is X t) (set (w .indexes) (s .readings) (numberAt l 4)) (w .indexes);
-  kinds = cond (is X t) (set (w .kinds) (s .readings) (letterOfKind (kindOf (fieldAt l 5)))) (w .kinds);
+  readings = cond (is X t) (set (w .readings) (s .readings) (readingAt (axisOfRec s) l)) (w .readings);
   curve = w .curve;
 }
 
@@ -119,9 +121,7 @@ withCurve w c = record {
   far = w .far;
   slots = w .slots;
   daily = w .daily;
-  positions = w .positions;
-  indexes = w .indexes;
-  kinds = w .kinds;
+  readings = w .readings;
   curve = c;
 }
 

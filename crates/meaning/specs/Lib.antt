@@ -3,7 +3,6 @@ pub mod Validity
 pub mod Cases
 pub mod Points
 pub mod Level
-pub mod Exact
 pub mod Line
 pub mod Refusals
 pub mod File
@@ -14,7 +13,4 @@ pub mod Calls
 pub mod Sheet
 pub mod Input
 pub mod Text
-pub mod CallLists
-pub mod Demands
-pub mod Witness
 pub mod Words

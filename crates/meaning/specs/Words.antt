@@ -9,3 +9,4 @@ pub mod Points
 pub mod Input
 pub mod Calls
 pub mod Examples
+pub mod Stores

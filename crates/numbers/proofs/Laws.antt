@@ -1,4 +1,4 @@
--- Laws of numbers in a field: of a walk over its bytes, by what is true of the bytes from place i on, and the definitions in words.
+-- Laws of numbers in a field: of a walk over its bytes, by what is true of the bytes from place i on or up to it, and the definitions in words.
 use mathlib.Core.Path.{_≡_, refl, ap}
 use mathlib.Core.Logic.{_↔_, _⊎_}
 use mathlib.Core.Bool.{Bool, true, false, not, _&&_, _||_}
@@ -7,9 +7,9 @@ use Prim.Native.Nat.{ℕ, suc, _+_, _-_, _*_, _≤_, _<_, min}
 use native.Mathlib.Numerals.{add-one}
 use native.Mathlib.Omega.{arith}
 use lib.Dec.{T, eqb, leb, ltb, eqb→eq, leb→le, le→leb, ltb→lt, lt→ltb}
-use lib.ListN.{length, drop, getD, drop-of-length-le}
+use lib.ListN.{length, drop, getD, drop-of-length-le, length-append}
 use lib.Seq.{drop-cons}
-use borrow.Author.Tests.{leb-true, leb-false}
+use borrow.Author.Tests.{eqb-true, eqb-false, ne-eqb}
 use Rattle.lists.specs.Lists.{any, all, Each}
 use Rattle.lists.proofs.Laws.{same}
 use Rattle.lists.proofs.Reflect.{of-eq, of-le, of-and, of-or, of-not, of-all}
@@ -28,45 +28,73 @@ pub any-end : (p : ℕ → Bool) (l : List ℕ) (i : ℕ) → length l ≤ i →
 unfolding any
 any-end p l i h = simp (drop-of-length-le l h)
 
-pub all-here : (p : ℕ → Bool) (l : List ℕ) (i : ℕ) → i < length l → p (getD l i 0) ≡ false → all p (drop i l) ≡ false
+-- ---- a walk: a byte more at the end
+all-snoc : (p : ℕ → Bool) (f : List ℕ) (d : ℕ) → all p (f ++ (d ∷ [])) ≡ (p d && all p f)
 unfolding all
-all-here p l i h e = rw (drop-cons l i 0 h) (simp e)
+all-snoc p [] d = refl
+all-snoc p (x ∷ f) d = more (p x) (p d) (all-snoc p f d)
+  where
+    more : (b c : Bool) → all p (f ++ (d ∷ [])) ≡ (c && all p f) → (b && all p (f ++ (d ∷ []))) ≡ (c && (b && all p f))
+    more true c e = e
+    more false true e = refl
+    more false false e = refl
 
-pub all-on : (p : ℕ → Bool) (l : List ℕ) (i : ℕ) → i < length l → p (getD l i 0) ≡ true → all p (drop i l) ≡ all p (drop (i + 1) l)
-unfolding all
-all-on p l i h e = rw (drop-cons l i 0 h, add-one i) (simp e)
-
-pub all-end : (p : ℕ → Bool) (l : List ℕ) (i : ℕ) → length l ≤ i → all p (drop i l) ≡ true
-unfolding all
-all-end p l i h = simp (drop-of-length-le l h)
-
--- ---- a walk: numbers
-pub value-on : (v : ℕ) (l : List ℕ) (i : ℕ) → i < length l → valueFrom v (drop i l) ≡ valueFrom (v * 10 + (getD l i 0 - 48)) (drop (i + 1) l)
+-- a digit more is ten times the number and the digit
+value-from-snoc : (v : ℕ) (f : List ℕ) (d : ℕ) → valueFrom v (f ++ (d ∷ [])) ≡ valueFrom v f * 10 + (d - 48)
 unfolding valueFrom
-value-on v l i h = rw (drop-cons l i 0 h, add-one i)
+value-from-snoc v [] d = refl
+value-from-snoc v (b ∷ f) d = value-from-snoc (v * 10 + (b - 48)) f d
 
-pub value-end : (v : ℕ) (l : List ℕ) (i : ℕ) → length l ≤ i → valueFrom v (drop i l) ≡ v
-unfolding valueFrom
-value-end v l i h = rw (drop-of-length-le l h)
+pub value-snoc : (f : List ℕ) (d : ℕ) → valueOf (f ++ (d ∷ [])) ≡ valueOf f * 10 + (d - 48)
+unfolding valueOf
+value-snoc f d = value-from-snoc 0 f d
 
-pub value-grows : (v : ℕ) (l : List ℕ) → v ≤ valueFrom v l
+value-grows : (v : ℕ) (l : List ℕ) → v ≤ valueFrom v l
 unfolding valueFrom
 value-grows v [] = omega arith
 value-grows v (b ∷ l) = omega (arith, value-grows (v * 10 + (b - 48)) l)
 
--- a number from n on stays there, whatever digits follow
-pub value-capped : (n v : ℕ) (l : List ℕ) → min (valueFrom (min v n) l) n ≡ min (valueFrom v l) n
-value-capped n v l = go (leb v n) refl
+pub of-digit : (b : ℕ) → T (isDigit b) ↔ ((48 ≤ b) × (b ≤ 57))
+unfolding isDigit
+of-digit b = of-and (leb 48 b) (leb b 57) (of-le 48 b) (of-le b 57)
+
+-- with a digit in front the number is not 0, but where that is a 0; a 0 alone is 0
+front-more : (x : ℕ) (f : List ℕ) → isDigit x ≡ true → eqb x 48 ≡ false → eqb (valueOf (x ∷ f)) 0 ≡ false
+unfolding valueOf valueFrom
+front-more x f d e =
+    let lo : 48 ≤ x = of-digit x .0 (rw d tt) .0 in
+    let ne : x ≡ 48 → ⊥ = eqb-false x 48 e in
+    ne-eqb (valueOf (x ∷ f)) 0 (λ (z : valueOf (x ∷ f) ≡ 0). omega (arith, value-grows (0 * 10 + (x - 48)) f))
+
+front-zero : (x : ℕ) (f : List ℕ) → eqb x 48 ≡ true → eqb (length (x ∷ f)) 1 ≡ true → eqb (valueOf (x ∷ f)) 0 ≡ true
+unfolding valueOf valueFrom
+front-zero x [] e h = rw (eqb-true x 48 e)
+front-zero x (y ∷ f) e h = absurd (omega (arith, eqb-true (length (x ∷ y ∷ f)) 1 h))
+
+-- a digit makes a number where it comes first, and after a number other than 0
+pub number-snoc : (f : List ℕ) (d : ℕ) → isNumber (f ++ (d ∷ [])) ≡ (isDigit d && (eqb (length f) 0 || (not (eqb (valueOf f) 0) && isNumber f)))
+unfolding isNumber all
+number-snoc [] d = go (isDigit d)
   where
-    go : (b : Bool) → leb v n ≡ b → min (valueFrom (min v n) l) n ≡ min (valueFrom v l) n
-    go true e =
-        let h : v ≤ n = leb-true v n e in
-        let k : min v n ≡ v = omega arith in
-        rw k
-    go false e =
-        let h : n < v = leb-false v n e in
-        let k : min v n ≡ n = omega arith in
-        rw k (omega (arith, value-grows n l, value-grows v l))
+    go : (a : Bool) → ((a && true) && true) ≡ (a && true)
+    go true = refl
+    go false = refl
+number-snoc (x ∷ f) d =
+    let n = length f in
+    rw (all-snoc isDigit (x ∷ f) d, length-append f (d ∷ []), ne-eqb (suc (n + 1)) 0 (λ (e : suc (n + 1) ≡ 0). omega arith), ne-eqb (suc (n + 1)) 1 (λ (e : suc (n + 1) ≡ 1). omega arith), ne-eqb (suc n) 0 (λ (e : suc n ≡ 0). omega arith))
+    (go (isDigit d) (isDigit x) (all isDigit f) (eqb x 48) (eqb (length (x ∷ f)) 1) (eqb (valueOf (x ∷ f)) 0) (front-more x f) (front-zero x f))
+  where
+    go : (a h g z o w : Bool) → (h ≡ true → z ≡ false → w ≡ false) → (z ≡ true → o ≡ true → w ≡ true) → ((a && (h && g)) && not z) ≡ (a && (not w && ((h && g) && (o || not z))))
+    go false h g z o w p q = refl
+    go true false g z o true p q = refl
+    go true false g z o false p q = refl
+    go true true false z o true p q = refl
+    go true true false z o false p q = refl
+    go true true true false true w p q = rw (p refl refl)
+    go true true true false false w p q = rw (p refl refl)
+    go true true true true true w p q = rw (q refl refl)
+    go true true true true false true p q = refl
+    go true true true true false false p q = refl
 
 -- a test against a bound below n sees no difference
 pub leb-capped : (n v h : ℕ) → h < n → leb (min v n) h ≡ leb v h
@@ -79,10 +107,6 @@ pub eqb-capped : (n v h : ℕ) → h < n → eqb (min v n) h ≡ eqb v h
 eqb-capped n v h p = same (eqb (min v n) h) (eqb v h) (λ t. of-eq v h .1 (omega (arith, eqb→eq (min v n) h t))) (λ t. of-eq (min v n) h .1 (omega (arith, eqb→eq v h t)))
 
 -- ---- numbers in words
-pub of-digit : (b : ℕ) → T (isDigit b) ↔ ((48 ≤ b) × (b ≤ 57))
-unfolding isDigit
-of-digit b = of-and (leb 48 b) (leb b 57) (of-le 48 b) (of-le b 57)
-
 -- one digit or more, and one alone or no zero in front
 pub of-number : (f : List ℕ) → T (isNumber f) ↔ ((length f ≡ 0 → ⊥) × (Each (λ b. (48 ≤ b) × (b ≤ 57)) f × ((length f ≡ 1) ⊎ (getD f 0 0 ≡ 48 → ⊥))))
 unfolding isNumber
@@ -99,13 +123,3 @@ unfolding isDash
 of-dash [] = (λ h. absurd h, λ e. let z : _≡_ {A = ℕ} 0 1 = cc in absurd (omega arith))
 of-dash (x ∷ []) = (λ h. ap (λ (y : ℕ). y ∷ []) (eqb→eq x 45 h), λ e. let p : x ≡ 45 = cc in rw p tt)
 of-dash (x ∷ y ∷ f) = (λ h. let n = suc (suc (length f)) in absurd (omega (arith, of-and (eqb n 1) (eqb x 45) (of-eq n 1) (of-eq x 45) .0 h .0)), λ e. let z : _≡_ {A = ℕ} 0 1 = cc in absurd (omega arith))
-
--- a digit more is ten times the number and the digit
-value-from-snoc : (v : ℕ) (f : List ℕ) (d : ℕ) → valueFrom v (f ++ (d ∷ [])) ≡ valueFrom v f * 10 + (d - 48)
-unfolding valueFrom
-value-from-snoc v [] d = refl
-value-from-snoc v (b ∷ f) d = value-from-snoc (v * 10 + (b - 48)) f d
-
-pub value-snoc : (f : List ℕ) (d : ℕ) → valueOf (f ++ (d ∷ [])) ≡ valueOf f * 10 + (d - 48)
-unfolding valueOf
-value-snoc f d = value-from-snoc 0 f d

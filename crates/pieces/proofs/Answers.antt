@@ -15,10 +15,10 @@ use Rattle.meaning.specs.File.{refusalAt}
 use Rattle.meaning.specs.Blocks.{World, sizesFit}
 use Rattle.meaning.specs.Record.{Rec}
 use Rattle.meaning.specs.Calls.{Out, openingOf, judged, lineOf}
-use Rattle.meaning.proofs.Held.Rec.{rec-step}
-use Rattle.meaning.proofs.Held.World.{world-step}
-use Rattle.meaning.proofs.Held.Follows.{few-lines}
-use Rattle.meaning.proofs.Demand2.{Held, held-fresh, line-is}
+use Rattle.demands.proofs.Held.Rec.{rec-step}
+use Rattle.demands.proofs.Held.World.{world-step}
+use Rattle.demands.proofs.Held.Follows.{few-lines}
+use Rattle.demands.proofs.Demand2.{Held, held-fresh, line-is}
 use Rattle.pieces.specs.Run.{Run, runOf, isAnswered, started, given, longer, fedByte, fed}
 use Rattle.pieces.specs.Promise.{mostInput, AnswerComes}
 use Rattle.pieces.proofs.Long.{long-refused}

@@ -6,7 +6,7 @@ use Prim.Native.Nat.{ℕ}
 use Rattle.lists.specs.Lists.{flat}
 use Rattle.meaning.specs.Calls.{Answer, took, refused, reports, Out}
 use Rattle.meaning.specs.Sheet.{Outcome}
-use Rattle.meaning.specs.CallLists.{outcomeOfOut, onwardBy, onward}
+use Rattle.demands.specs.CallLists.{outcomeOfOut, onwardBy, onward}
 use Rattle.pieces.specs.Run.{Run, runOf, isAnswered, fedByte, fed, fedAll, ended}
 
 pub fed-append : (r : Run) (a b : List ℕ) → fed r (a ++ b) ≡ fed (fed r a) b

@@ -16,12 +16,12 @@ use Rattle.meaning.specs.Blocks.{World}
 use Rattle.meaning.specs.Record.{Rec}
 use Rattle.meaning.specs.Calls.{recAfter, worldAfter}
 use Rattle.meaning.specs.Sheet.{Sheet, stopped, level, stoppedAt, closingBy, closingOf, outcomeBy, outcomeFrom, outcomeOf, sheetOf}
-use Rattle.meaning.specs.Demands.{Bounded}
-use Rattle.meaning.proofs.Bound.Theorem.{bounded-report}
-use Rattle.meaning.proofs.Held.Rec.{rec-step}
-use Rattle.meaning.proofs.Held.World.{world-step}
-use Rattle.meaning.proofs.Demand2.{Held, held-fresh}
-use Rattle.meaning.proofs.Sane.{sane}
+use Rattle.demands.specs.Demands.{Bounded}
+use Rattle.demands.proofs.Bound.Theorem.{bounded-report}
+use Rattle.demands.proofs.Held.Rec.{rec-step}
+use Rattle.demands.proofs.Held.World.{world-step}
+use Rattle.demands.proofs.Demand2.{Held, held-fresh}
+use Rattle.demands.proofs.Sane.{sane}
 use Rattle.pieces.specs.Promise.{LevelBounded}
 
 -- a refusal is no level

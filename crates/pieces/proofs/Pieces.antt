@@ -16,9 +16,9 @@ use Rattle.meaning.specs.Blocks.{World}
 use Rattle.meaning.specs.Record.{Rec}
 use Rattle.meaning.specs.Calls.{Out, openingOf, lineOf, closeOf}
 use Rattle.meaning.specs.Sheet.{Outcome, sheetOf, outcomeOf}
-use Rattle.meaning.specs.CallLists.{outcomeOfOut, onward, runFrom, run}
+use Rattle.demands.specs.CallLists.{called, outcomeOfOut, onward, runFrom, run}
 use Rattle.meaning.proofs.Pins.Input.{input-words}
-use Rattle.meaning.proofs.Demand2.{demand-2}
+use Rattle.demands.proofs.Demand2.{demand-2}
 use Rattle.pieces.specs.Run.{Run, runOf, isAnswered, started, given, longer, fedByte, fed, fedAll, shut, lastLine, ended, ranOver, textGiven}
 use Rattle.pieces.specs.Promise.{Pieces, PiecesText}
 use Rattle.pieces.proofs.Lines.{Endless, endless-more, joined, lines-begun}
@@ -27,7 +27,7 @@ use Rattle.pieces.proofs.Feeding.{fed-append, fed-flat, kept-all, stops
 
 -- ---- the input's end
 shut-outcome : (o : Out) → outcomeOfOut (shut o) ≡ onward o (runFrom (o .after) (o .world) [])
-unfolding shut runFrom
+unfolding shut runFrom called
 shut-outcome o = go (isAnswered (o .answer)) refl
   where
     go : (b : Bool) → isAnswered (o .answer) ≡ b → outcomeOfOut (cond b o (closeOf (o .after) (o .world))) ≡ onward o (outcomeOfOut (closeOf (o .after) (o .world)))
@@ -35,7 +35,7 @@ shut-outcome o = go (isAnswered (o .answer)) refl
     go false e = sym (goes-on o (outcomeOfOut (closeOf (o .after) (o .world))) e)
 
 last-outcome : (o : Out) (l : Line) → outcomeOfOut (shut (lineOf (o .after) l (o .world))) ≡ runFrom (o .after) (o .world) (l ∷ [])
-unfolding runFrom
+unfolding runFrom called
 last-outcome o l = shut-outcome (lineOf (o .after) l (o .world))
 
 end-outcome : (o : Out) (l : Line) → isAnswered (o .answer) ≡ false → Endless l → outcomeOfOut (ended (runOf o l)) ≡ runFrom (o .after) (o .world) (linesOf l)
@@ -48,7 +48,7 @@ given-outcome : (o : Out) (l : Line) (bs : List ℕ) (ls : List Line)
     → (isAnswered ((lineOf (o .after) l (o .world)) .answer) ≡ false
     → outcomeOfOut (ended (fed (given o l) bs)) ≡ runFrom ((lineOf (o .after) l (o .world)) .after) ((lineOf (o .after) l (o .world)) .world) ls)
     → outcomeOfOut (ended (fed (given o l) bs)) ≡ runFrom (o .after) (o .world) (l ∷ ls)
-unfolding given runFrom
+unfolding given runFrom called
 given-outcome o l bs ls later = go (isAnswered ((lineOf (o .after) l (o .world)) .answer)) refl
   where
     go : (b : Bool) → isAnswered ((lineOf (o .after) l (o .world)) .answer) ≡ b
@@ -59,7 +59,7 @@ given-outcome o l bs ls later = go (isAnswered ((lineOf (o .after) l (o .world))
 -- at its 321st byte
 long-outcome : (o : Out) (l : Line) (bs : List ℕ) → 320 < length l → Endless l
     → outcomeOfOut (ended (fed (given o l) bs)) ≡ runFrom (o .after) (o .world) (linesOf (l ++ bs))
-unfolding given runFrom joined
+unfolding given runFrom called joined
 long-outcome o [] bs h e = absurd (omega arith)
 long-outcome o (b ∷ c) bs h e = rw (lines-begun b c bs e) (go (linesOf bs))
   where
@@ -113,7 +113,7 @@ follows (b ∷ bs) l o h e k = byte-follows b bs (follows bs) l o h e
 
 -- ---- whatever record and blocks held
 pub over-lines : (s : Rec) (w : World) (ps : List (List ℕ)) → outcomeOfOut (ranOver s w ps) ≡ run s w (linesOf (flat ps))
-unfolding ranOver started run Follows
+unfolding ranOver started run called Follows
 over-lines s w ps = rw (fed-flat (runOf (openingOf s w) []) ps) (go (isAnswered ((openingOf s w) .answer)) refl)
   where
     go : (b : Bool) → isAnswered ((openingOf s w) .answer) ≡ b

@@ -13,10 +13,10 @@ use Rattle.meaning.specs.Line.{Line, numberAt}
 use Rattle.meaning.specs.Input.{linesOf}
 use Rattle.meaning.specs.File.{filingIn}
 use Rattle.meaning.specs.Level.{Report, lowestRate}
-use Rattle.meaning.specs.Exact.{exactFraction}
+use Rattle.demands.specs.Exact.{exactFraction}
 use Rattle.meaning.specs.Text.{tabbed, levelText, levelLine, yearLine, refusalLine, textOf}
 use Rattle.meaning.specs.Sheet.{Sheet, stopped, level, sheetOf}
-use Rattle.meaning.specs.Demands.{Within}
+use Rattle.demands.specs.Demands.{Within}
 use Rattle.pieces.specs.Promise.{NccBounded}
 use Rattle.pieces.proofs.Pieces.{pieces-text}
 use Rattle.pieces.proofs.Levels.{level-bounded}

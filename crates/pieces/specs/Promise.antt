@@ -11,13 +11,13 @@ use Rattle.meaning.specs.Line.{numberAt}
 use Rattle.meaning.specs.Input.{linesOf}
 use Rattle.meaning.specs.File.{filingIn}
 use Rattle.meaning.specs.Level.{Report, lowestRate}
-use Rattle.meaning.specs.Exact.{exactFraction}
+use Rattle.demands.specs.Exact.{exactFraction}
 use Rattle.meaning.specs.Text.{textOf}
 use Rattle.meaning.specs.Blocks.{World, sizesFit}
 use Rattle.meaning.specs.Record.{Rec}
 use Rattle.meaning.specs.Sheet.{level, sheetOf, outcomeOf}
-use Rattle.meaning.specs.CallLists.{outcomeOfOut}
-use Rattle.meaning.specs.Demands.{Within, Bounded}
+use Rattle.demands.specs.CallLists.{outcomeOfOut}
+use Rattle.demands.specs.Demands.{Within, Bounded}
 use Rattle.pieces.specs.Run.{isAnswered, started, fed, ranOver, textGiven}
 
 -- whatever record and blocks held, and wherever the input is cut: the sheet and the curve are those of the lines of the pieces put together

@@ -9,7 +9,7 @@ use Rattle.meaning.specs.Text.{endByte, textOf}
 use Rattle.meaning.specs.Blocks.{World}
 use Rattle.meaning.specs.Record.{Rec}
 use Rattle.meaning.specs.Calls.{Answer, took, refused, reports, Out, openingOf, lineOf, closeOf}
-use Rattle.meaning.specs.CallLists.{sheetOfAnswer}
+use Rattle.demands.specs.CallLists.{sheetOfAnswer}
 
 -- what the last call gave, and the bytes of the line begun
 pub record Run : Type 0 where

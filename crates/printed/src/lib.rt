@@ -10,7 +10,7 @@ fn put_tabbed(n: u64, out: &mut [u8], at: usize) -> usize
     ensures { λ r. ⌜ Put (now (out .entry)) (now (out .exit)) at r (tabbed n) ⌝ }
 {
     let a = digits::put_byte(9, out, at);
-    digits::put_number(n, out, a)
+    decimals::put_number(n, out, a)
 }
 
 // Z, number, count.

@@ -1,16 +1,18 @@
 -- A column whose first i numbers are a field of the first i readings, and whose others are as they were.
 use mathlib.Core.Path.{_≡_, refl, sym, _∙_, ap, subst}
-use Prim.Native.Nat.{ℕ, zero, suc, _<_, _≤_, min}
+use Prim.Native.Nat.{ℕ, zero, suc, _+_, _<_, _≤_, min}
+use native.Mathlib.Nat.{not-suc-le-zero, le-of-suc-le-suc}
+use native.Mathlib.Numerals.{add-one}
 use native.Mathlib.Omega.{arith}
 use mathlib.Core.Bool.{Bool, true, false, not}
-use mathlib.Core.List.{List, map}
+use mathlib.Core.List.{List, [], _∷_, map}
 use lib.Dec.{T, ltb, ltb→lt, nltb→le}
 use lib.ListN.{length, getD, set, replicate, length-set, length-map, length-replicate, getD-replicate, List·getD-map, List·getD-eq-default}
 use lib.Seq.{getD-set-same, getD-set-other, ext-getD}
 use Rattle.lists.specs.Lists.{tab}
 use Rattle.lists.proofs.Laws.{length-tab, getD-tab0}
 use Rattle.readings.specs.declared.Reading.{Reading}
-use Rattle.readings.specs.Readings.{fresh, firstReadings}
+use Rattle.readings.specs.Readings.{fresh, letter, positionsOf, countsOf, lettersOf, firstReadings, columnsOf}
 
 -- 600 times a number, as a name: so that antt does not write the list out
 unfoldable pub blank : ℕ → List ℕ
@@ -81,3 +83,24 @@ module _ (f : Reading → ℕ) (ys : List Reading) (n : ℕ) where
 pub copied-all : (f : Reading → ℕ) (ys : List Reading) → copied f ys (min (length ys) 600) (blank (f fresh)) ≡ map f (firstReadings ys)
 unfolding firstReadings blank
 copied-all f ys = copied-whole f ys 600
+
+-- ---- an array of 600, copied one reading a turn
+any-default : (ys : List Reading) (i : ℕ) (d e : Reading) → i < length ys → getD ys i d ≡ getD ys i e
+any-default [] i d e l = absurd (not-suc-le-zero l)
+any-default (y ∷ ys) zero d e l = refl
+any-default (y ∷ ys) (suc i) d e l = any-default ys i d e (le-of-suc-le-suc l)
+
+pub copied-next : (f : Reading → ℕ) (ys : List Reading) (i : ℕ) (zs ws : List ℕ) (d : Reading) → i < length ys → ws ≡ copied f ys i zs → set ws i (f (getD ys i d)) ≡ copied f ys (i + 1) zs
+copied-next f ys i zs ws d l e = rw (add-one i, e, any-default ys i d fresh l)
+
+pub columns-copied : (ys : List Reading) (i : ℕ) (ps xs ks : List ℕ) → length ys ≡ 600 → i ≡ 600
+    → ps ≡ copied (λ r. r .position) ys i (blank 0) → xs ≡ copied (λ r. r .count) ys i (blank 0) → ks ≡ copied letter ys i (blank 69)
+    → record { positions = ps; indexes = xs; kinds = ks } ≡ columnsOf ys
+unfolding columnsOf positionsOf countsOf lettersOf
+columns-copied ys i ps xs ks e z a b c =
+    let m : i ≡ min (length ys) 600 = omega arith in
+    λ j. record {
+      positions = (a ∙ ap (λ (n : ℕ). copied (λ r. r .position) ys n (blank 0)) m ∙ copied-all (λ r. r .position) ys) j;
+      indexes = (b ∙ ap (λ (n : ℕ). copied (λ r. r .count) ys n (blank 0)) m ∙ copied-all (λ r. r .count) ys) j;
+      kinds = (c ∙ ap (λ (n : ℕ). copied letter ys n (blank 69)) m ∙ copied-all letter ys) j;
+    }

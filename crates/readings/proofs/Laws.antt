@@ -96,7 +96,7 @@ unfolding lettersOf
 letters-length rs = length-map rs letter
 
 -- ---- the columns of 600 readings are those of the whole list
-tab-all : {A : Type 0} (n : ℕ) (xs : List A) (d : A) → length xs ≡ n → tab n 0 (λ i. getD xs i d) ≡ xs
+pub tab-all : {A : Type 0} (n : ℕ) (xs : List A) (d : A) → length xs ≡ n → tab n 0 (λ i. getD xs i d) ≡ xs
 tab-all n xs d e = ext-getD d (tab n 0 (λ i. getD xs i d)) xs (length-tab n 0 (λ i. getD xs i d) ∙ sym e) (λ k l. getD-tab0 n (λ i. getD xs i d) k d (omega (arith, l, length-tab n 0 (λ i. getD xs i d))))
 
 pub all-readings : (rs : List Reading) → length rs ≡ 600 → firstReadings rs ≡ rs

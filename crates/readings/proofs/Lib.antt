@@ -6,3 +6,4 @@ pub mod Fills
 pub mod Copied
 pub mod Laid
 pub mod Long
+pub mod Columned

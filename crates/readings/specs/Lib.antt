@@ -1,1 +1,3 @@
 pub mod Readings
+pub mod Columns
+pub mod Lent

@@ -3,12 +3,21 @@
 // A line = ends a case, and a line ~ stands for a line that is given with a near block of another size.
 ghost use Prim.Native.Nat.{_≤_};
 ghost use lib.ListN.{length};
+use answers::Answer;
+use hearing::hear_line;
 use libc::STDIN_FILENO;
 use libc::STDOUT_FILENO;
-use site::Answer;
+use opening::open_blocks;
 use site::Record;
+use site::line_answer;
+use site::open_answer;
 
 const MISSING: u32 = 4294967295;
+
+// Readings, and places of the curve.
+const READINGS: usize = 600;
+
+const PLACES: usize = 4400;
 
 // A record, and what is to be written: nothing (0), a refusal (1) or a case's end (2).
 struct Stepped {
@@ -69,6 +78,55 @@ fn answered(record: Record, answer: Answer) -> Stepped {
     }
 }
 
+// The blocks are made fresh for the next case.
+fn reopen(
+    record: Record,
+    near: &mut [u32],
+    far: &mut [u32],
+    slots: &mut [u16],
+    daily: &mut [u32],
+    curve: &mut [u64],
+) -> Stepped {
+    let count = record.count;
+    let sized = open_blocks(near, far, slots, daily, READINGS, curve);
+    let o = open_answer(record, sized);
+    let fresh = o.record;
+    Stepped {
+        record: fresh,
+        say: 2,
+        number: 0,
+        count: count,
+    }
+}
+
+// No line looks at the readings, so none is stored.
+fn given(
+    record: Record,
+    line: &[u8],
+    near: &mut [u32],
+    far: &mut [u32],
+    slots: &mut [u16],
+    daily: &mut [u32],
+) -> Stepped {
+    let progress = record.progress;
+    let heard = hear_line(
+        record.state,
+        record.count,
+        progress,
+        line,
+        near,
+        far,
+        slots,
+        daily,
+        READINGS,
+        PLACES,
+    );
+    let o = line_answer(heard);
+    let after = o.record;
+    let said = o.answer;
+    answered(after, said)
+}
+
 fn step(
     record: Record,
     line: &[u8],
@@ -76,52 +134,15 @@ fn step(
     far: &mut [u32],
     slots: &mut [u16],
     daily: &mut [u32],
-    positions: &mut [u32],
-    indexes: &mut [u64],
-    kinds: &mut [u8],
     curve: &mut [u64],
 ) -> Stepped {
     if is_sign(line, b'=') {
-        let count = record.count;
-        let o = record.open(near, far, slots, daily, positions, indexes, kinds, curve);
-        let fresh = o.record;
-        return Stepped {
-            record: fresh,
-            say: 2,
-            number: 0,
-            count: count,
-        };
+        return reopen(record, near, far, slots, daily, curve);
     }
     if is_sign(line, b'~') {
-        let o = record.line(
-            line,
-            &mut near[..0],
-            far,
-            slots,
-            daily,
-            positions,
-            indexes,
-            kinds,
-            curve,
-        );
-        let left = o.record;
-        let said = o.answer;
-        return answered(left, said);
+        return given(record, line, &mut near[..0], far, slots, daily);
     }
-    let o = record.line(
-        line,
-        near,
-        far,
-        slots,
-        daily,
-        positions,
-        indexes,
-        kinds,
-        curve,
-    );
-    let after = o.record;
-    let said = o.answer;
-    answered(after, said)
+    given(record, line, near, far, slots, daily)
 }
 
 fn write_step(say: u64, number: u64, count: u64) {
@@ -143,9 +164,6 @@ fn main() {
     let mut far = [MISSING; 15200];
     let mut slots = [0u16; 30400];
     let mut daily = [0u32; 4392];
-    let mut positions = [0u32; 600];
-    let mut indexes = [0u64; 600];
-    let mut kinds = [0u8; 600];
     let mut curve = [0u64; 4400];
     let mut text = io::large_buffer();
     let n = io::read_full(STDIN_FILENO, &mut text);
@@ -161,9 +179,6 @@ fn main() {
             &mut far,
             &mut slots,
             &mut daily,
-            &mut positions,
-            &mut indexes,
-            &mut kinds,
             &mut curve,
         );
         write_step(r.say, r.number, r.count);

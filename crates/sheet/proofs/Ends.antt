@@ -16,10 +16,10 @@ use Rattle.pieces.specs.Run.{Run, runOf, isAnswered, given, shut, lastLine, end
 use Rattle.pieces.specs.Parts.{stepped}
 use Rattle.closing.specs.declared.Year.{Year}
 use Rattle.closing.specs.Closes.{yearsShown}
-use Rattle.site.specs.declared.Answer.{Answer}
-use Rattle.site.specs.declared.Answer.the-variants.{Took, Refused, Reports}
-use Rattle.site.specs.Views.{answerView}
-use Rattle.site.specs.Closes.{Handed, hands, noYears, answerShown, yearsBeside, handed}
+use Rattle.answers.specs.declared.Answer.{Answer}
+use Rattle.answers.specs.declared.Answer.the-variants.{Took, Refused, Reports}
+use Rattle.answers.specs.Views.{answerView}
+use Rattle.ending.specs.Ends.{Handed, hands, noYears, answerShown, yearsBeside, handed}
 
 -- ---- with an answer: no years stand beside it
 answer-back : (a : Answer) → answerShown (answerView a) ≡ a

@@ -16,10 +16,10 @@ use Rattle.meaning.specs.Sheet.{sheetOf}
 use Rattle.meaning.specs.Blocks.{World, sizesFit}
 use Rattle.meaning.specs.Record.{Rec, recFits, contentsFit, beforeOf, filingOf}
 use Rattle.meaning.specs.Calls.{Answer, took, refused, reports, Out, leaves, openingOf, judged, lineOf, closed, closeOf}
-use Rattle.meaning.specs.CallLists.{sheetOfAnswer}
+use Rattle.demands.specs.CallLists.{sheetOfAnswer}
 use Rattle.pieces.specs.Run.{Run, runOf, isAnswered, started, given, longer, fedByte, fed, fedAll, shut, lastLine, ended, ranOver, textGiven}
 use Rattle.pieces.proofs.Pieces.{pieces-text}
-use Rattle.site.specs.Closes.{Handed, answerShown, yearsBeside, handed}
+use Rattle.ending.specs.Ends.{Handed, answerShown, yearsBeside, handed}
 use Rattle.sheet.specs.Shown.{sheetText}
 use Rattle.sheet.proofs.Years.{Printable, rows-shown, none-printable, report-printable}
 

@@ -8,8 +8,8 @@ use lib.ListN.{length, take}
 use Rattle.lists.specs.Lists.{flat}
 use Rattle.meaning.specs.Text.{levelText, yearText, refusalLine}
 use Rattle.closing.specs.declared.Year.{Year}
-use Rattle.site.specs.declared.Answer.{Answer}
-use Rattle.site.specs.declared.Answer.the-variants.{Took, Refused, Reports}
+use Rattle.answers.specs.declared.Answer.{Answer}
+use Rattle.answers.specs.declared.Answer.the-variants.{Took, Refused, Reports}
 use Rattle.sheet.specs.declared.Printed.{Printed}
 
 -- a year that the file does not have has no line

@@ -1,8 +1,8 @@
 // The end of a run, and the text of its sheet.
-mod ending; // at the input's end: a last line, then the close
+mod finishing; // at the input's end: a last line, then the close
 mod printing; // the sheet's bytes
 
-pub use ending::finish;
+pub use finishing::finish;
 pub use printing::text;
 
 // The first bytes are a sheet's text.

@@ -1,10 +1,10 @@
 // A sheet's bytes: at most 86 of its N line and 46 of each Y line.
 use crate::Printed;
+use answers::Answer;
 use closing::Year;
 use printed::put_level;
 use printed::put_refusal;
 use printed::put_year;
-use site::Answer;
 use site::Closed;
 ghost use Prim.Native.Nat.{_+_, _≤_};
 ghost use lib.ListN.{length};

@@ -1,5 +1,2 @@
-pub mod Opens
 pub mod Same
-pub mod Steps
-pub mod Ends
-pub mod Answers
+pub mod Opens

@@ -1,3 +1,1 @@
 pub mod Views
-pub mod Columns
-pub mod Closes

@@ -2,13 +2,18 @@
 //
 // Each call takes the record and hands it back, with the lent blocks as further parameters. What it promises is one equation: answer, record and all
 // lent lists are what the definitions of document 01 say of the record and the lists that came.
+//
+// A call does the work on plain parameters first, and then touches the lent list of readings: it stores one, makes all fresh, or has copied them before.
+mod calls; // opening, line and close
 mod checks; // 1 on the fields of the record
-mod ending; // the close of a file
-mod lines; // one line of a file
-mod opening; // a fresh record and fresh blocks
-mod telling; // what a call answers
+mod fresh; // a record never opened, and one just opened
+mod packing; // what a call hands back
 
+use answers::Answer;
 use closing::Year;
+pub use packing::close_answer;
+pub use packing::line_answer;
+pub use packing::open_answer;
 use taking::Progress;
 
 pub struct Record {
@@ -18,21 +23,6 @@ pub struct Record {
     pub count: u64,
     // what they gave
     pub progress: Progress,
-}
-
-pub enum Answer {
-    Took,
-    Refused {
-        number: u64,
-        count: u64,
-    },
-    // the level in W, and the points counted
-    Reports {
-        al: u64,
-        filiere: u64,
-        level: u64,
-        points: u64,
-    },
 }
 
 pub struct Opened {

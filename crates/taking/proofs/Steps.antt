@@ -89,16 +89,16 @@ module _ (s : Rec) (l : Line) (w : World) (o : Stepped) where
   stay-E u = stay s l E noBlock w (λ v. w) o u refl refl
 
   pub stay-C : tagOf l ≡ C → o ≡ stepOf s l (pointBlocks (w .near) (w .far))
-      → within (λ v. world (v .near) (v .far) (w .slots) (w .daily) (w .positions) (w .indexes) (w .kinds) (w .curve)) o ≡ stepOf s l w
+      → within (λ v. world (v .near) (v .far) (w .slots) (w .daily) (w .readings) (w .curve)) o ≡ stepOf s l w
   unfolding blocksAfter worldAfter
-  stay-C u = stay s l C (pointBlocks (w .near) (w .far)) w (λ v. world (v .near) (v .far) (w .slots) (w .daily) (w .positions) (w .indexes) (w .kinds) (w .curve)) o u refl refl
+  stay-C u = stay s l C (pointBlocks (w .near) (w .far)) w (λ v. world (v .near) (v .far) (w .slots) (w .daily) (w .readings) (w .curve)) o u refl refl
 
   pub stay-P : tagOf l ≡ P → o ≡ stepOf s l (slotBlock (w .slots))
-      → within (λ v. world (w .near) (w .far) (v .slots) (w .daily) (w .positions) (w .indexes) (w .kinds) (w .curve)) o ≡ stepOf s l w
+      → within (λ v. world (w .near) (w .far) (v .slots) (w .daily) (w .readings) (w .curve)) o ≡ stepOf s l w
   unfolding blocksAfter worldAfter
-  stay-P u = stay s l P (slotBlock (w .slots)) w (λ v. world (w .near) (w .far) (v .slots) (w .daily) (w .positions) (w .indexes) (w .kinds) (w .curve)) o u refl refl
+  stay-P u = stay s l P (slotBlock (w .slots)) w (λ v. world (w .near) (w .far) (v .slots) (w .daily) (w .readings) (w .curve)) o u refl refl
 
   pub stay-D : tagOf l ≡ D → o ≡ stepOf s l (dailyBlock (w .daily))
-      → within (λ v. world (w .near) (w .far) (w .slots) (v .daily) (w .positions) (w .indexes) (w .kinds) (w .curve)) o ≡ stepOf s l w
+      → within (λ v. world (w .near) (w .far) (w .slots) (v .daily) (w .readings) (w .curve)) o ≡ stepOf s l w
   unfolding blocksAfter worldAfter
-  stay-D u = stay s l D (dailyBlock (w .daily)) w (λ v. world (w .near) (w .far) (w .slots) (v .daily) (w .positions) (w .indexes) (w .kinds) (w .curve)) o u refl refl
+  stay-D u = stay s l D (dailyBlock (w .daily)) w (λ v. world (w .near) (w .far) (w .slots) (v .daily) (w .readings) (w .curve)) o u refl refl

@@ -12,19 +12,8 @@ use Rattle.meaning.specs.Refusals.{Reason, numberOf, refusal}
 use Rattle.meaning.specs.Blocks.{World, letterOfKind, pointsSize, slotsSize, dailySize}
 use Rattle.meaning.specs.Record.{Rec, inState, axisOfRec, beforeOf}
 use Rattle.meaning.specs.Calls.{Answer, Out, out, took, refused, positionOn, recAfter, worldAfter}
-
 -- the lent lists
-abbrev pub world : List ℕ → List ℕ → List ℕ → List ℕ → List ℕ → List ℕ → List ℕ → List ℕ → World
-world near far slots daily positions indexes kinds curve = record {
-  near = near;
-  far = far;
-  slots = slots;
-  daily = daily;
-  positions = positions;
-  indexes = indexes;
-  kinds = kinds;
-  curve = curve;
-}
+pub use Rattle.readings.specs.Columns.{world}
 
 pub record Stepped : Type 0 where
   -- 0 taken, else the refusal's number
@@ -51,7 +40,7 @@ onX l v = cond (is X (tagOf l)) v 0
 unfoldable pub blocksAfter : Tag → Line → Rec → World → World
 blocksAfter t l s w =
     world (worldAfter t l s w .near) (worldAfter t l s w .far) (worldAfter t l s w .slots) (worldAfter t l s w .daily)
-    (w .positions) (w .indexes) (w .kinds) (w .curve)
+    (w .readings) (w .curve)
 
 unfoldable pub stepBy : Option Reason → Rec → Line → World → Stepped
 stepBy none s l w = record {
@@ -78,7 +67,7 @@ heard n s w = out (answerOf n (s .count + 1)) (inState (cond (eqb n 0) (s .state
 
 -- ---- the blocks that a line may write, and by tag: S, X, B, R and E none, then C, P and D
 abbrev pub lineBlocks : List ℕ → List ℕ → List ℕ → List ℕ → World
-lineBlocks near far slots daily = world near far slots daily [] [] [] []
+lineBlocks near far slots daily = world near far slots daily [] []
 
 abbrev pub noBlock : World
 noBlock = lineBlocks [] [] [] []

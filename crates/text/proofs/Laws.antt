@@ -1,20 +1,22 @@
 -- Laws of fields: of a walk over a line's bytes, by what is true of the bytes from place i on, and the definitions in words. Those of numbers are passed on.
 use mathlib.Core.Path.{_≡_, refl, ap, sym, _∙_}
 use mathlib.Core.Logic.{_↔_, _⊎_, inl, inr, ⊎-elim}
-use mathlib.Core.Bool.{Bool, true, false, _&&_, cond}
+use mathlib.Core.Bool.{Bool, true, false, not, _&&_, _||_, cond}
 use mathlib.Core.List.{List, [], _∷_, _++_}
-use Prim.Native.Nat.{ℕ, zero, suc, _+_, _-_, _≤_, _<_, min}
+use Prim.Native.Nat.{ℕ, zero, suc, _+_, _-_, _*_, _≤_, _<_, min}
 use native.Mathlib.Numerals.{add-one}
 use native.Mathlib.Omega.{arith}
 use lib.Dec.{T, eqb, leb}
 use lib.ListN.{length, take, drop, getD, drop-of-length-le, length-take, length-drop}
-use lib.Seq.{drop-cons, take-length}
+use lib.Seq.{drop-cons, take-length, take-suc}
 use borrow.Author.Tests.{eq-eqb, ne-eqb, eqb-true, eqb-false, leb-true, leb-false}
 use Rattle.lists.specs.Lists.{Each, each-nil, each-cons}
 use Rattle.lists.proofs.Laws.{same, is-true}
 use Rattle.lists.proofs.Reflect.{of-eq, of-and}
 use Rattle.text.specs.Fields.{upTo, past, tabAt, tabs, restAt, fieldAt, reads}
-pub use Rattle.numbers.proofs.Laws.{any-here, any-on, any-end, all-here, all-on, all-end, value-on, value-end, value-grows, value-capped, leb-capped, ltb-capped, eqb-capped, of-digit, of-number, of-dash, value-snoc}
+use Rattle.text.specs.Numbers.{isDigit, isNumber, valueOf, most, numberedOf}
+use Rattle.text.specs.declared.Numbered.{Numbered}
+pub use Rattle.numbers.proofs.Laws.{any-here, any-on, any-end, value-snoc, number-snoc, leb-capped, ltb-capped, eqb-capped, of-digit, of-number, of-dash}
 
 -- ---- a walk: the first tab, and the tabs
 pub tab-here : (l : List ℕ) (i : ℕ) → i < length l → getD l i 0 ≡ 9 → tabAt (drop i l) ≡ 0
@@ -105,6 +107,21 @@ first-length t e h = simp length-take (omega (arith, tab-le t))
 -- what `&t[k..]` holds
 pub rest-past : (t : List ℕ) (e k : ℕ) → e ≡ tabAt t → k ≡ min (e + 1) (length t) → take (length t - k) (drop k t) ≡ past t
 rest-past t e k h g = rest-of t k ∙ rw (g, h) (past-min t)
+
+-- ---- the walk over a number: what the first i bytes are, with one byte more, and where the field ends
+pub number-on : (s : List ℕ) (i : ℕ) (b c : Bool) (v : ℕ) → i < length s → b ≡ isNumber (take i s) → v ≡ min (valueOf (take i s)) most
+    → c ≡ (isDigit (getD s i 0) && (eqb i 0 || (not (eqb v 0) && b))) → c ≡ isNumber (take (i + 1) s)
+number-on s i b c v h p q e =
+    let n : length (take i s) ≡ i = simp length-take (omega arith) in
+    e ∙ rw (p, q, eqb-capped most (valueOf (take i s)) 0 (omega arith), add-one i, take-suc s i 0 h, number-snoc (take i s) (getD s i 0), n)
+
+pub value-on : (s : List ℕ) (i v w : ℕ) → i < length s → v ≡ min (valueOf (take i s)) most → w ≡ min (v * 10 + (getD s i 0 - 48)) most → w ≡ min (valueOf (take (i + 1) s)) most
+value-on s i v w h q e = e ∙ rw (add-one i, take-suc s i 0 h, value-snoc (take i s) (getD s i 0)) (omega arith)
+
+pub numbered : (s : List ℕ) (i : ℕ) (b : Bool) (v : ℕ) → i ≡ tabAt s → b ≡ isNumber (take i s) → v ≡ min (valueOf (take i s)) most
+    → _≡_ {A = Numbered} (record { length = i; formed = b; value = v }) (numberedOf s)
+unfolding numberedOf
+numbered s i b v e p q = rw (p, q, first-of s i e, e)
 
 -- ---- fields in words
 -- no byte of a field is a tab

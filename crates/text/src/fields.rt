@@ -1,14 +1,16 @@
 // The fields of a line are parts of the line itself: what is handed out are the caller's own bytes.
 //
 // A caller reads all the fields of a line in one pass by carrying what is left of it:
-//     let e = tab(t);
-//     let f = &t[..e];
+//     let n = number(t);
+//     let e = n.length;
 //     let k = past(t.len(), e);
 //     t = &t[k..];
+use crate::Numbered;
 ghost use mathlib.Core.Path.{_≡_};
 ghost use Prim.Native.Nat.{_+_, min};
 ghost use lib.ListN.{drop};
 ghost use Rattle.text.specs.Fields.{upTo, tabAt, reads, edition};
+ghost use Rattle.text.specs.Numbers.{numberedOf};
 
 const TAB: u8 = 9;
 
@@ -32,6 +34,29 @@ pub fn field(s: &[u8]) -> &[u8]
 {
     let e = tab(s);
     &s[..e]
+}
+
+// The first field's end, its form as a number and its number, in one walk over its bytes.
+pub fn number(s: &[u8]) -> Numbered
+    ensures { λ r. ⌜ r ≡ numberedOf (now (s .entry)) ⌝ }
+{
+    let mut formed = false;
+    let mut value: u64 = 0;
+    let mut i = 0;
+    while i < s.len() {
+        let b = s[i];
+        if b == TAB {
+            break;
+        }
+        formed = numbers::goes_on(i, formed, value, b);
+        value = numbers::capped(value * 10 + numbers::worth(b));
+        i += 1;
+    }
+    Numbered {
+        length: i,
+        formed,
+        value,
+    }
 }
 
 // The place past e bytes and the tab after them, in a line of len bytes: its end where that is sooner.

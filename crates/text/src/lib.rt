@@ -4,9 +4,15 @@ mod fields;
 pub use fields::after;
 pub use fields::field;
 pub use fields::is_edition;
+pub use fields::number;
 pub use fields::past;
 pub use fields::reads;
 pub use fields::tab;
 pub use numbers::is_dash;
-pub use numbers::is_number;
-pub use numbers::value;
+
+// The first field: how many bytes it has, whether they are a number, and their number up to 10^18.
+pub struct Numbered {
+    pub length: usize,
+    pub formed: bool,
+    pub value: u64,
+}

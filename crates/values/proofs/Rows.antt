@@ -1,6 +1,6 @@
 -- The 20 values of a line, by what the code has in hand.
 use mathlib.Core.Path.{_≡_, refl, ap, sym, _∙_}
-use mathlib.Core.Bool.{Bool, true, false, _&&_}
+use mathlib.Core.Bool.{Bool, true, false, _&&_, _||_, cond}
 use mathlib.Core.List.{List, [], _∷_, _++_}
 use Prim.Native.Nat.{ℕ, _+_, _≤_, _<_}
 use native.Mathlib.Numerals.{add-one}
@@ -9,9 +9,12 @@ use lib.ListN.{length, take, set, replicate}
 use lib.Seq.{take-suc-set, take-all}
 use Rattle.lists.specs.Lists.{tab}
 use Rattle.lists.proofs.Tables.{tab-snoc}
-use Rattle.text.specs.Fields.{upTo, past, restAt, fieldAt}
+use Rattle.text.specs.Fields.{upTo, past, tabAt, restAt, fieldAt}
+use Rattle.text.specs.Numbers.{isDash, numberedOf}
+use Rattle.text.specs.declared.Numbered.{Numbered}
 use Rattle.meaning.specs.Line.{Line, formsOf, inForm}
 use Rattle.intake.specs.Reads.{inForms, isFormed}
+use Rattle.values.specs.Codes.{dash}
 use Rattle.values.specs.Reads.{dateReadOf}
 use Rattle.values.specs.Rows.{rowForm, rowTag, rowAt, codeOf, isValue, rowOf}
 use Rattle.intake.specs.declared.DateFields.{DateFields}
@@ -20,6 +23,19 @@ use Rattle.values.specs.declared.DateRead.{DateRead}
 use Rattle.intake.proofs.Fields.{field-of, field-add, rest-suc}
 use Rattle.intake.proofs.Forms.{isDateFormed, dated, in-forms-snoc}
 use Rattle.intake.proofs.Readers.{DateAt}
+
+-- ---- a field: its number, unless it is a dash where one may stand
+pub code-here : (dashes : Bool) (t f : List ℕ) (n : Numbered) (d m : Bool) (v : ℕ) → n ≡ numberedOf t → f ≡ upTo t → d ≡ isDash f → m ≡ (dashes && d) → v ≡ cond m dash (n .value) → v ≡ codeOf dashes f
+unfolding codeOf numberedOf
+code-here dashes t f n d m v e p q r j = rw (j, r, q, e, p)
+
+pub value-here : (dashes : Bool) (t f : List ℕ) (n : Numbered) (d m b : Bool) → n ≡ numberedOf t → f ≡ upTo t → d ≡ isDash f → m ≡ (dashes && d) → b ≡ (m || n .formed) → b ≡ isValue dashes f
+unfolding isValue numberedOf
+value-here dashes t f n d m b e p q r j = rw (j, r, q, e, p)
+
+pub length-here : (t : List ℕ) (n : Numbered) → n ≡ numberedOf t → n .length ≡ tabAt t
+unfolding numberedOf
+length-here t n e = rw e
 
 -- ---- one place more
 -- the first n codes of what is left of a line

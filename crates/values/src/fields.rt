@@ -6,31 +6,32 @@ use intake::after_tag;
 use intake::both;
 use intake::date_fields;
 ghost use mathlib.Core.Path.{_≡_};
+ghost use mathlib.Core.Bool.{_||_, cond};
 ghost use Rattle.meaning.specs.Line.{C, P};
-ghost use Rattle.values.specs.Codes.{pointRow, profileRow};
+ghost use Rattle.values.specs.Codes.{dash, pointRow, profileRow};
 ghost use Rattle.values.specs.Reads.{dateReadOf};
-ghost use Rattle.values.specs.Rows.{isValue, codeOf, rowAt, rowTag, rowOf};
+ghost use Rattle.values.specs.Rows.{rowAt, rowTag, rowOf};
 
-// A number, or a dash where one may stand.
-fn is_value(f: &[u8], dashes: bool) -> bool
-    ensures { λ r. ⌜ r ≡ isValue dashes (now (f .entry)) ⌝ }
+// A value is a number, or a dash where one may stand.
+fn is_value(formed: bool, missing: bool) -> bool
+    ensures { λ r. ⌜ r ≡ (missing || formed) ⌝ }
 {
-    if both(dashes, text::is_dash(f)) {
+    if missing {
         return true;
     }
-    text::is_number(f)
+    formed
 }
 
-fn code_of(f: &[u8], dashes: bool) -> u64
-    ensures { λ r. ⌜ r ≡ codeOf dashes (now (f .entry)) ⌝ }
+fn code_of(value: u64, missing: bool) -> u64
+    ensures { λ r. ⌜ r ≡ cond missing dash value ⌝ }
 {
-    if both(dashes, text::is_dash(f)) {
+    if missing {
         return DASH;
     }
-    text::value(f)
+    value
 }
 
-// The first 20 fields of what is left of a line, in one pass.
+// The first 20 fields of what is left of a line, each walked once; a dash is then told by its one byte.
 fn read_row(t: &[u8], dashes: bool) -> Row
     ensures { λ r. ⌜ r ≡ rowOf dashes (now (t .entry)) ⌝ }
 {
@@ -39,12 +40,11 @@ fn read_row(t: &[u8], dashes: bool) -> Row
     let mut rest = t;
     let mut k = 0;
     while k < 20 {
-        let e = text::tab(rest);
-        let f = &rest[..e];
-        let v = code_of(f, dashes);
-        codes[k] = v;
-        let ok = is_value(f, dashes);
-        formed = both(formed, ok);
+        let n = text::number(rest);
+        let e = n.length;
+        let missing = both(dashes, text::is_dash(&rest[..e]));
+        codes[k] = code_of(n.value, missing);
+        formed = both(formed, is_value(n.formed, missing));
         let a = text::past(rest.len(), e);
         rest = &rest[a..];
         k += 1;

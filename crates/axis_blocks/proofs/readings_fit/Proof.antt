@@ -4,7 +4,7 @@ use borrow.Author.Tests.{not-true, not-false}
 use borrow.Author.Needs.{needs}
 use native.Mathlib.Omega.{arith}
 use Rattle.meaning.specs.Record.{readingsFit}
-use Rattle.axis_blocks.specs.Axis.{readingsIn}
+use Rattle.readings.specs.Columns.{readingsIn}
 use Rattle.axis_blocks.proofs.Columns.{left, left-start, left-end, left-unfit, left-early, left-falls, left-next}
 use Rattle.axis_blocks.proofs.readings_fit.Statement.{statement}
 use Rattle.axis_blocks.proofs.readings_fit.Tie as tie

@@ -40,7 +40,7 @@ unfolding inState
 marked n c s = record { state = refl; count = refl; last = refl; site = refl; readings = refl; lastIndex = refl; lasts = refl; tallies = refl }
 
 -- ---- lines
-line-is : (s : Rec) (l : Line) (w : World) → Fit s w → s .state ≡ 1 → (o : Option Reason) → refusal (beforeOf s) l ≡ o → lineOf s l w ≡ judged o s l w
+pub line-is : (s : Rec) (l : Line) (w : World) → Fit s w → s .state ≡ 1 → (o : Option Reason) → refusal (beforeOf s) l ≡ o → lineOf s l w ≡ judged o s l w
 unfolding lineOf
 line-is s l w f e o h = rw (fits s w f, eq-eqb (s .state) 1 e, h)
 

@@ -7,11 +7,11 @@ use Rattle.refusals.proofs.main.Statement.{statement}
 use Rattle.refusals.proofs.main.Tie as tie
 
 abbrev Inv-loop : tie.InvT-loop
-Inv-loop near₀ far₀ slots₀ daily₀ positions₀ indexes₀ kinds₀ curve₀ text n record₀ at₀ near far slots daily positions indexes kinds curve «record» at =
-    (length near ≡ 15200) × ((length far ≡ 15200) × ((length slots ≡ 30400) × ((length daily ≡ 4392) × ((length positions ≡ 600) × ((length indexes ≡ 600) × ((length kinds ≡ 600) × ((length curve ≡ 4400) × ((length text ≡ 65536) × (n ≤ 65536)))))))))
+Inv-loop near₀ far₀ slots₀ daily₀ curve₀ text n record₀ at₀ near far slots daily curve «record» at =
+    (length near ≡ 15200) × ((length far ≡ 15200) × ((length slots ≡ 30400) × ((length daily ≡ 4392) × ((length curve ≡ 4400) × ((length text ≡ 65536) × (n ≤ 65536))))))
 
 abbrev μ-loop : tie.MeasureT-loop
-μ-loop near₀ far₀ slots₀ daily₀ positions₀ indexes₀ kinds₀ curve₀ text n record₀ at₀ near far slots daily positions indexes kinds curve «record» at =
+μ-loop near₀ far₀ slots₀ daily₀ curve₀ text n record₀ at₀ near far slots daily curve «record» at =
     65536 - at
 
 large-buffer-requires : tie.Need-large-buffer-requires Inv-loop μ-loop
@@ -29,7 +29,7 @@ never-opened-requires c κs = search needs
 loop-holds : tie.Need-loop-holds Inv-loop μ-loop
 loop-holds c =
     let r = c .before .before .read-full in let l = c .before .before .before .before .large-buffer in
-    (refl, (refl, (refl, (refl, (refl, (refl, (refl, (refl, (omega (arith, r .kept, l .ensures), omega (arith, r .ensures .0, r .kept, l .ensures))))))))))
+    (refl, (refl, (refl, (refl, (refl, (omega (arith, r .kept, l .ensures), omega (arith, r .ensures .0, r .kept, l .ensures)))))))
 
 slice-aggregate-line-end : tie.Need-slice-aggregate-line-end Inv-loop μ-loop
 slice-aggregate-line-end c = omega arith
@@ -61,15 +61,6 @@ slice-aggregate-step-4 c = omega arith
 slice-aggregate-step-5 : tie.Need-slice-aggregate-step-5 Inv-loop μ-loop
 slice-aggregate-step-5 c = omega arith
 
-slice-aggregate-step-6 : tie.Need-slice-aggregate-step-6 Inv-loop μ-loop
-slice-aggregate-step-6 c = omega arith
-
-slice-aggregate-step-7 : tie.Need-slice-aggregate-step-7 Inv-loop μ-loop
-slice-aggregate-step-7 c = omega arith
-
-slice-aggregate-step-8 : tie.Need-slice-aggregate-step-8 Inv-loop μ-loop
-slice-aggregate-step-8 c = omega arith
-
 step-requires : tie.Need-step-requires Inv-loop μ-loop
 step-requires c κs = search needs
 
@@ -77,16 +68,13 @@ write-step-requires : tie.Need-write-step-requires Inv-loop μ-loop
 write-step-requires c κs = search needs
 
 add-at : tie.Need-add-at Inv-loop μ-loop
-add-at c =
-    omega (arith, c .before .before .before .before .before .before .before .before .before .before .before .before .before .before .before .before .before .before .before .before .before .line-end .ensures, c .before .before .before .before .before .before .before .before .before .before .before .before .before .before .before .before .before .before .before .before .before .before .before .before .loop .inv)
+add-at c = omega (arith, c .before .before .before .before .before .before .before .before .before .before .before .before .before .before .before .line-end .ensures, c .before .before .before .before .before .before .before .before .before .before .before .before .before .before .before .before .before .before .loop .inv)
 
 loop-less : tie.Need-loop-less Inv-loop μ-loop
-loop-less c =
-    omega (arith, c .before .before .before .before .before .before .before .before .before .before .before .before .before .before .before .before .before .before .before .before .before .line-end .ensures, c .before .before .before .before .before .before .before .before .before .before .before .before .before .before .before .before .before .before .before .before .before .before .before .loop-test .taken, c .before .before .before .before .before .before .before .before .before .before .before .before .before .before .before .before .before .before .before .before .before .before .before .before .loop .inv)
+loop-less c = omega (arith, c .before .before .before .before .before .before .before .before .before .before .before .before .before .before .before .line-end .ensures, c .before .before .before .before .before .before .before .before .before .before .before .before .before .before .before .before .before .loop-test .taken, c .before .before .before .before .before .before .before .before .before .before .before .before .before .before .before .before .before .before .loop .inv)
 
 loop-again : tie.Need-loop-again Inv-loop μ-loop
-loop-again c =
-    omega (arith, c .before .before .before .before .before .before .before .before .before .before .step .kept, c .before .before .before .before .before .before .before .before .before .before .before .before .before .before .before .before .before .before .before .before .before .line-end .ensures, c .before .before .before .before .before .before .before .before .before .before .before .before .before .before .before .before .before .before .before .before .before .before .before .before .loop .inv)
+loop-again c = omega (arith, c .before .before .before .before .before .before .before .step .kept, c .before .before .before .before .before .before .before .before .before .before .before .before .before .before .before .line-end .ensures, c .before .before .before .before .before .before .before .before .before .before .before .before .before .before .before .before .before .before .loop .inv)
 
 returns : tie.Need-returns Inv-loop μ-loop
 returns c = search needs
@@ -112,9 +100,6 @@ main-spec =
     slice-aggregate-step-3
     slice-aggregate-step-4
     slice-aggregate-step-5
-    slice-aggregate-step-6
-    slice-aggregate-step-7
-    slice-aggregate-step-8
     step-requires
     write-step-requires
     add-at

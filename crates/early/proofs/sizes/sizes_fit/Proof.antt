@@ -18,16 +18,10 @@ both-requires-4 c κs = search needs
 both-requires-5 : tie.Need-both-requires-5
 both-requires-5 c κs = search needs
 
-both-requires-6 : tie.Need-both-requires-6
-both-requires-6 c κs = search needs
-
-both-requires-7 : tie.Need-both-requires-7
-both-requires-7 c κs = search needs
-
 returns : tie.Need-returns
 unfolding lengthsFit
 returns c =
-    rw (c .both7 .ensures, c .before .both6 .ensures, c .before .before .both5 .ensures, c .before .before .before .both4 .ensures, c .before .before .before .before .both3 .ensures, c .before .before .before .before .before .both2 .ensures, c .before .before .before .before .before .before .both .ensures)
+    rw (c .both5 .ensures, c .before .both4 .ensures, c .before .before .both3 .ensures, c .before .before .before .both2 .ensures, c .before .before .before .before .both .ensures)
 
 pub sizes-fit-spec : {M : Type 1} → statement M
-sizes-fit-spec = tie.close (tie.spec both-requires both-requires-2 both-requires-3 both-requires-4 both-requires-5 both-requires-6 both-requires-7 returns)
+sizes-fit-spec = tie.close (tie.spec both-requires both-requires-2 both-requires-3 both-requires-4 both-requires-5 returns)

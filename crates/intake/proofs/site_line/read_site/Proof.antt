@@ -1,6 +1,6 @@
 use borrow.Author.Needs.{needs}
-use Rattle.intake.proofs.Fields.{after-tag, field-of, go-on}
-use Rattle.intake.proofs.Readers.{site-read}
+use Rattle.intake.proofs.Fields.{after-tag, field-of, go-on, number-past}
+use Rattle.intake.proofs.Readers.{number-at, site-read}
 use Rattle.intake.proofs.site_line.read_site.Statement.{statement}
 use Rattle.intake.proofs.site_line.read_site.Tie as tie
 
@@ -13,20 +13,20 @@ field-requires c κs = search needs
 after-requires : tie.Need-after-requires
 after-requires c κs = search needs
 
-field-requires-2 : tie.Need-field-requires-2
-field-requires-2 c κs = search needs
+number-requires : tie.Need-number-requires
+number-requires c κs = search needs
 
 after-requires-2 : tie.Need-after-requires-2
 after-requires-2 c κs = search needs
 
-field-requires-3 : tie.Need-field-requires-3
-field-requires-3 c κs = search needs
+number-requires-2 : tie.Need-number-requires-2
+number-requires-2 c κs = search needs
 
 after-requires-3 : tie.Need-after-requires-3
 after-requires-3 c κs = search needs
 
-field-requires-4 : tie.Need-field-requires-4
-field-requires-4 c κs = search needs
+field-requires-2 : tie.Need-field-requires-2
+field-requires-2 c κs = search needs
 
 meter-of-requires : tie.Need-meter-of-requires
 meter-of-requires c κs = search needs
@@ -34,23 +34,14 @@ meter-of-requires c κs = search needs
 after-requires-4 : tie.Need-after-requires-4
 after-requires-4 c κs = search needs
 
-field-requires-5 : tie.Need-field-requires-5
-field-requires-5 c κs = search needs
+number-requires-3 : tie.Need-number-requires-3
+number-requires-3 c κs = search needs
 
 is-meter-requires : tie.Need-is-meter-requires
 is-meter-requires c κs = search needs
 
-is-number-requires : tie.Need-is-number-requires
-is-number-requires c κs = search needs
-
 both-requires : tie.Need-both-requires
 both-requires c κs = search needs
-
-is-number-requires-2 : tie.Need-is-number-requires-2
-is-number-requires-2 c κs = search needs
-
-is-number-requires-3 : tie.Need-is-number-requires-3
-is-number-requires-3 c κs = search needs
 
 both-requires-2 : tie.Need-both-requires-2
 both-requires-2 c κs = search needs
@@ -63,15 +54,6 @@ is-edition-requires c κs = search needs
 
 both-requires-4 : tie.Need-both-requires-4
 both-requires-4 c κs = search needs
-
-value-requires : tie.Need-value-requires
-value-requires c κs = search needs
-
-value-requires-2 : tie.Need-value-requires-2
-value-requires-2 c κs = search needs
-
-value-requires-3 : tie.Need-value-requires-3
-value-requires-3 c κs = search needs
 
 returns : tie.Need-returns
 returns c =
@@ -91,28 +73,20 @@ returns c =
     let b14 = b13 .before in
     let b15 = b14 .before in
     let b16 = b15 .before in
-    let b17 = b16 .before in
-    let b18 = b17 .before in
-    let b19 = b18 .before in
-    let b20 = b19 .before in
-    let b21 = b20 .before in
-    let b22 = b21 .before in
-    let l = b22 .before .before .args .line .now in
-    let t1 = after-tag l _ (b22 .after-tag .ensures) in
-    let f1 = b21 .field .ensures in
-    let t2 = go-on l _ _ _ 1 t1 f1 (b20 .after .ensures) in
-    let f2 = b19 .field2 .ensures in
-    let t3 = go-on l _ _ _ 2 t2 f2 (b18 .after2 .ensures) in
-    let f3 = b17 .field3 .ensures in
-    let t4 = go-on l _ _ _ 3 t3 f3 (b16 .after3 .ensures) in
-    let f4 = b15 .field4 .ensures in
-    let t5 = go-on l _ _ _ 4 t4 f4 (b13 .after4 .ensures) in
-    site-read l _ _ _ _ _ _ _ _ _ _ _ _ _ _ _ _ _ _
-    (field-of l _ _ 1 t1 f1) (field-of l _ _ 2 t2 f2) (field-of l _ _ 3 t3 f3) (field-of l _ _ 4 t4 f4) (field-of l _ _ 5 t5 (b12 .field5 .ensures))
-    (b14 .meter-of .ensures) (b11 .is-meter .ensures)
-    (b4 .is-edition .ensures) (b8 .is-number2 .ensures) (b7 .is-number3 .ensures) (b10 .is-number .ensures)
-    (b9 .both .ensures) (b6 .both2 .ensures) (b5 .both3 .ensures) (b3 .both4 .ensures)
-    (b2 .value .ensures) (b1 .value2 .ensures) (c .value3 .ensures)
+    let l = b16 .before .before .args .line .now in
+    let t1 = after-tag l _ (b16 .after-tag .ensures) in
+    let f1 = b15 .field .ensures in
+    let t2 = go-on l _ _ _ 1 t1 f1 (b14 .after .ensures) in
+    let f2 = b13 .number .ensures in
+    let t3 = number-past l _ _ _ 2 t2 f2 (b12 .after2 .ensures) in
+    let f3 = b11 .number2 .ensures in
+    let t4 = number-past l _ _ _ 3 t3 f3 (b10 .after3 .ensures) in
+    let f4 = b9 .field2 .ensures in
+    let t5 = go-on l _ _ _ 4 t4 f4 (b7 .after4 .ensures) in
+    site-read l _ _ _ _ _ _ _ _ _ _ _ _
+    (field-of l _ _ 1 t1 f1) (number-at l _ _ 2 t2 f2) (number-at l _ _ 3 t3 f3) (field-of l _ _ 4 t4 f4) (number-at l _ _ 5 t5 (b6 .number3 .ensures))
+    (b8 .meter-of .ensures) (b5 .is-meter .ensures) (b1 .is-edition .ensures)
+    (b4 .both .ensures) (b3 .both2 .ensures) (b2 .both3 .ensures) (c .both4 .ensures)
 
 pub read-site-spec : {M : Type 1} → statement M
 read-site-spec =
@@ -121,24 +95,18 @@ read-site-spec =
     after-tag-requires
     field-requires
     after-requires
-    field-requires-2
+    number-requires
     after-requires-2
-    field-requires-3
+    number-requires-2
     after-requires-3
-    field-requires-4
+    field-requires-2
     meter-of-requires
     after-requires-4
-    field-requires-5
+    number-requires-3
     is-meter-requires
-    is-number-requires
     both-requires
-    is-number-requires-2
-    is-number-requires-3
     both-requires-2
     both-requires-3
     is-edition-requires
     both-requires-4
-    value-requires
-    value-requires-2
-    value-requires-3
     returns)

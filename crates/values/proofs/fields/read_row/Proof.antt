@@ -9,7 +9,7 @@ use Rattle.text.proofs.Laws.{first-of, first-length, rest-past}
 use Rattle.meaning.specs.Line.{someField}
 use Rattle.values.specs.Rows.{rowForm}
 use Rattle.intake.specs.Reads.{inForms}
-use Rattle.values.proofs.Rows.{codesOf, codes-on, formed-on, rest-on, row-read}
+use Rattle.values.proofs.Rows.{code-here, value-here, length-here, codesOf, codes-on, formed-on, rest-on, row-read}
 use Rattle.values.proofs.fields.read_row.Statement.{statement}
 use Rattle.values.proofs.fields.read_row.Tie as tie
 
@@ -24,11 +24,17 @@ loop-holds : tie.Need-loop-holds Inv-loop μ-loop
 unfolding tab inForms someField restAt
 loop-holds c = (omega arith, (refl, (refl, (refl, refl))))
 
-tab-requires : tie.Need-tab-requires Inv-loop μ-loop
-tab-requires c κs = search needs
+number-requires : tie.Need-number-requires Inv-loop μ-loop
+number-requires c κs = search needs
 
-slice-aggregate-f : tie.Need-slice-aggregate-f Inv-loop μ-loop
-slice-aggregate-f c = first-length _ _ (c .before .tab .ensures)
+slice-aggregate-is-dash : tie.Need-slice-aggregate-is-dash Inv-loop μ-loop
+slice-aggregate-is-dash c = let t = c .before .before .before .loop .rest .now in first-length t _ (length-here t _ (c .before .number .ensures))
+
+is-dash-requires : tie.Need-is-dash-requires Inv-loop μ-loop
+is-dash-requires c κs = search needs
+
+both-requires : tie.Need-both-requires Inv-loop μ-loop
+both-requires c κs = search needs
 
 code-of-requires : tie.Need-code-of-requires Inv-loop μ-loop
 code-of-requires c κs = search needs
@@ -42,8 +48,8 @@ array-write-codes c = search needs
 is-value-requires : tie.Need-is-value-requires Inv-loop μ-loop
 is-value-requires c κs = search needs
 
-both-requires : tie.Need-both-requires Inv-loop μ-loop
-both-requires c κs = search needs
+both-requires-2 : tie.Need-both-requires-2 Inv-loop μ-loop
+both-requires-2 c κs = search needs
 
 past-requires : tie.Need-past-requires Inv-loop μ-loop
 past-requires c κs = search needs
@@ -69,21 +75,26 @@ loop-again c =
     let b2 = b1 .before in
     let b3 = b2 .before in
     let b4 = b3 .before in
-    let b6 = b4 .before .before in
+    let b5 = b4 .before in
+    let b6 = b5 .before in
     let b8 = b6 .before .before in
-    let a = b8 .before .before .args in
-    let t = b8 .loop .rest .now in
-    let k = b8 .loop .k in
-    let inv = b8 .loop .inv in
+    let b10 = b8 .before .before in
+    let a = b10 .before .before .args in
+    let t = b10 .loop .rest .now in
+    let k = b10 .loop .k in
+    let inv = b10 .loop .inv in
     let p = inv .1 .1 .1 .1 in
-    let e = b6 .tab .ensures in
-    let f = first-of t _ e in (
+    let n = b8 .number .ensures in
+    let e = length-here t _ n in
+    let f = first-of t _ e in
+    let code = code-here (a .dashes) t _ _ _ _ _ n f (b6 .is-dash .ensures) (b5 .both .ensures) (b4 .code-of .ensures) in
+    let value = value-here (a .dashes) t _ _ _ _ _ n f (b6 .is-dash .ensures) (b5 .both .ensures) (b3 .is-value .ensures) in (
       omega arith,
       (
-        length-set (b8 .loop .codes) k _ ∙ inv .1 .0,
+        length-set (b10 .loop .codes) k _ ∙ inv .1 .0,
         (
-          codes-on (a .dashes) (b8 .loop .codes) k (a .t .now) t _ _ (omega arith) (inv .1 .1 .0) p f (b4 .code-of .ensures),
-          (b2 .both .ensures ∙ formed-on (a .dashes) _ _ k (a .t .now) t _ (inv .1 .1 .1 .0) p f (b3 .is-value .ensures), rest-on k (a .t .now) t _ p (rest-past t _ _ e (b1 .past .ensures))),
+          codes-on (a .dashes) (b10 .loop .codes) k (a .t .now) t _ _ (omega arith) (inv .1 .1 .0) p f code,
+          (b2 .both2 .ensures ∙ formed-on (a .dashes) _ _ k (a .t .now) t _ (inv .1 .1 .1 .0) p f value, rest-on k (a .t .now) t _ p (rest-past t _ _ e (b1 .past .ensures))),
         ),
       ),
     )
@@ -102,13 +113,15 @@ read-row-spec =
     Inv-loop
     μ-loop
     loop-holds
-    tab-requires
-    slice-aggregate-f
+    number-requires
+    slice-aggregate-is-dash
+    is-dash-requires
+    both-requires
     code-of-requires
     mul-codes
     array-write-codes
     is-value-requires
-    both-requires
+    both-requires-2
     past-requires
     sub-rest
     part-rest-start

@@ -1,0 +1,4 @@
+pub mod Exact
+pub mod CallLists
+pub mod Demands
+pub mod Witness

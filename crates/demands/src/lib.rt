@@ -1,0 +1,1 @@
+// The three demands and their proofs: see specs/Demands.antt.

@@ -1,0 +1,59 @@
+// A record with no line taken.
+use crate::Record;
+use intake::Meter;
+use intake::Site;
+use ranges::Lasts;
+use ranges::Tallies;
+use taking::Progress;
+ghost use mathlib.Core.Path.{_≡_};
+ghost use Rattle.meaning.specs.Record.{emptyRec, neverOpened};
+ghost use Rattle.site.specs.Views.{view};
+
+// A record in a state, with no line taken.
+pub fn empty(state: u64) -> Record
+    ensures { λ r. ⌜ view r ≡ emptyRec state ⌝ }
+{
+    let site = Site {
+        al: 0,
+        filiere: 0,
+        meter: Meter::NoMeter,
+        ps: 0,
+    };
+    let lasts = Lasts {
+        c: 0,
+        x: 0,
+        d: 0,
+        p: 0,
+        b: 0,
+        r: 0,
+    };
+    let none = [0u64; 10];
+    let around = [0u64; 12];
+    let tallies = Tallies {
+        profile_dates: none,
+        daily_dates: around,
+        breaks: none,
+        rates: none,
+    };
+    let progress = Progress {
+        last: 0,
+        site,
+        readings: 0,
+        last_index: 0,
+        lasts,
+        tallies,
+    };
+    Record {
+        state,
+        count: 0,
+        progress,
+    }
+}
+
+impl Record {
+    pub fn never_opened() -> Record
+        ensures { λ r. ⌜ view r ≡ neverOpened ⌝ }
+    {
+        empty(0)
+    }
+}
