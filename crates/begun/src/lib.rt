@@ -1,8 +1,8 @@
 // The line begun: where it ends in a piece, and its bytes, which are held from piece to piece.
 ghost use mathlib.Core.Path.{_≡_};
-ghost use mathlib.Core.Bool.{cond};
+ghost use mathlib.Core.Bool.{_&&_, cond, not};
 ghost use Prim.Native.Nat.{_+_, _-_, _≤_, min};
-ghost use lib.Dec.{eqb};
+ghost use lib.Dec.{eqb, ltb};
 ghost use lib.ListN.{length, take};
 ghost use Rattle.digits.specs.Written.{written};
 ghost use Rattle.pieces.specs.Parts.{endAt};
@@ -68,4 +68,14 @@ pub fn whole<'a>(line: &'a [u8], held: usize, part: &'a [u8]) -> &'a [u8]
     }
     let e = held + part.len();
     &line[..e]
+}
+
+// Whether a run that ends has a last line to give, one that lacks its byte 10.
+pub fn is_begun(answered: bool, held: usize) -> bool
+    ensures { λ r. ⌜ r ≡ (not answered && ltb 0 held) ⌝ }
+{
+    if answered {
+        return false;
+    }
+    0 < held
 }

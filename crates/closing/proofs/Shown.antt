@@ -21,7 +21,7 @@ use Rattle.meaning.specs.Closing.{tooHigh, lacks}
 use Rattle.meaning.specs.Blocks.{World}
 use Rattle.meaning.specs.Record.{Tallies, filingHeld}
 use Rattle.intervals.specs.Days.{energiesOf, totalsOf}
-use Rattle.points.specs.Cases.{isCurve, caseCodes}
+use Rattle.cases.specs.Cases.{isCurve, caseCodes}
 use Rattle.points.specs.Sources.{casFrom}
 use Rattle.curve.specs.declared.Filling.{Filling}
 use Rattle.curve.specs.Places.{held, basisOf, fillingOf}

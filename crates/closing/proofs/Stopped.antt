@@ -14,7 +14,7 @@ use Rattle.meaning.specs.Blocks.{World}
 use Rattle.meaning.specs.Record.{Tallies, historyOfSite, filingHeld}
 use Rattle.intervals.specs.Days.{totalsOf}
 use Rattle.lacks.proofs.Lacking.{partial-held, lacking-held, zero-held}
-use Rattle.points.specs.Cases.{isCurve, caseCodes}
+use Rattle.cases.specs.Cases.{isCurve, caseCodes}
 use Rattle.marks.specs.Marks.{curveMarks, indexMarks, defaultMarks}
 use Rattle.marks.specs.Stops.{firstStop, stopNumber}
 use Rattle.closing.specs.Rows.{refusedBy}

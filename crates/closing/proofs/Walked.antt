@@ -15,7 +15,7 @@ use Rattle.meaning.specs.Blocks.{World}
 use Rattle.meaning.specs.Record.{Tallies, filingHeld}
 use Rattle.demands.proofs.Bound.Counted.{some-point}
 use Rattle.intervals.specs.Days.{energiesOf, totalsOf}
-use Rattle.points.specs.Cases.{isCurve, caseCodes}
+use Rattle.cases.specs.Cases.{isCurve, caseCodes}
 use Rattle.points.specs.Sources.{casFrom}
 use Rattle.curve.specs.declared.Filling.{Filling}
 use Rattle.curve.specs.Places.{held, basisOf, fillingOf, curveIn}

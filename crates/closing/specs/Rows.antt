@@ -4,7 +4,7 @@ use Prim.Native.Nat.{ℕ, _+_}
 use lib.ListN.{getD, replicate}
 use Rattle.calendar.specs.declared.Years.{Years}
 use Rattle.meaning.specs.Text.{letterOfCase}
-use Rattle.points.specs.Cases.{meantCase, caseOfCode}
+use Rattle.cases.specs.Cases.{meantCase, caseOfCode}
 use Rattle.curve.specs.declared.Filling.{Filling}
 use Rattle.curve.specs.Places.{nccOf}
 use Rattle.closing.specs.declared.Year.{Year}

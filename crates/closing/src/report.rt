@@ -4,13 +4,13 @@ ghost use mathlib.Core.Bool.{cond};
 ghost use Prim.Native.Nat.{_≤_, _<_, _*_};
 ghost use lib.ListN.{length};
 ghost use Rattle.meaning.specs.Text.{letterOfCase};
-ghost use Rattle.points.specs.Cases.{meantCase};
+ghost use Rattle.cases.specs.Cases.{meantCase};
 ghost use Rattle.closing.specs.Rows.{rowIn, rowsIn, refusedBy, reportedBy};
 use crate::Closing;
 use crate::Year;
 use calendar::Years;
+use cases::Case;
 use curve::Filling;
-use points::Case;
 
 // A case as the sheet has it.
 fn letter_of(case: Case) -> u8
@@ -33,7 +33,7 @@ fn row(year: u64, code: u64, present: u64) -> Year
 {
     Year {
         year,
-        case: letter_of(points::cases::case_at(code)),
+        case: letter_of(cases::case_at(code)),
         present,
     }
 }

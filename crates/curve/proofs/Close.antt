@@ -23,7 +23,7 @@ use Rattle.meaning.specs.Level.{missingEntry, entryOf, pointsIn, presentIn, cou
 use Rattle.meaning.specs.Closing.{tooHigh, lacks}
 use Rattle.meaning.specs.Blocks.{World}
 use Rattle.meaning.specs.Record.{Tallies, filingHeld}
-use Rattle.donors.specs.declared.Basis.{Basis}
+use Rattle.own_points.specs.declared.Basis.{Basis}
 use Rattle.years.specs.Years.{casFrom}
 use Rattle.tallies.specs.Tallies.{tally, pointIn, exceedsIn, tallyOf, entryIn}
 use Rattle.places.specs.Places.{Held, held}

@@ -27,9 +27,10 @@ use Rattle.meaning.specs.Blocks.{World, rowSize, slotAt, slotsStart, missingPoi
 use Rattle.meaning.specs.Record.{Tallies, historyOfSite, profileHeld, byYear, rateOfCode, filingHeld}
 use Rattle.curves.specs.Rows.{rowOf}
 use Rattle.curves.proofs.Filings.{point-is}
-use Rattle.donors.specs.declared.Basis.{Basis}
-use Rattle.points.specs.Cases.{isSet, meantCase, caseOfCode}
-use Rattle.donors.specs.Given.{codeIn, readIn, profileIn, profiledOn, donorBy, curveGiven, indexGiven, donorsAmong}
+use Rattle.own_points.specs.declared.Basis.{Basis}
+use Rattle.cases.specs.Cases.{isSet, meantCase, caseOfCode}
+use Rattle.own_points.specs.Given.{codeIn, readIn, profileIn, profiledOn}
+use Rattle.donors.specs.Given.{donorBy, curveGiven, indexGiven, donorsAmong}
 use Rattle.years.specs.Years.{positionIn, onDay, bit, giversOn, casFrom, casSum}
 use Rattle.points.specs.Sources.{Day, curveDonorsIn, indexDonorsIn, defaultIn, sourceIn}
 use Rattle.tallies.specs.Tallies.{place}

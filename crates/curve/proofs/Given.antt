@@ -20,7 +20,7 @@ use Rattle.meaning.specs.Cases.{Case, caseM, case1, case2, case3, case4, caseP,
 use Rattle.meaning.specs.Points.{positionAt}
 use Rattle.meaning.specs.Blocks.{missingPoint, rowSize, isNear, nearStart, farStart}
 use Rattle.curves.specs.Rows.{holdsYear, part, rowOf}
-use Rattle.points.specs.Cases.{isSet, isCurve, meterOf, markIn, marksIn, caseIn, caseCodes, caseOfCode, codeOfCase, caseTold, meantCase}
+use Rattle.cases.specs.Cases.{isSet, isCurve, meterOf, markIn, marksIn, caseIn, caseCodes, caseOfCode, codeOfCase, caseTold, meantCase}
 use Rattle.years.specs.Years.{positionIn}
 use Rattle.points.specs.Fits.{isPoint, PointsFit}
 use Rattle.curve.proofs.Filings.{map-range}

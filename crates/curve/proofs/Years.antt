@@ -17,7 +17,7 @@ use Rattle.note.proofs.PeakDays.{days-length, most-days}
 use Rattle.meaning.specs.Cases.{Case}
 use Rattle.meaning.specs.Points.{Place}
 use Rattle.meaning.specs.Level.{missingEntry}
-use Rattle.donors.specs.declared.Basis.{Basis}
+use Rattle.own_points.specs.declared.Basis.{Basis}
 use Rattle.tallies.specs.declared.Tally.{Tally}
 use Rattle.tallies.specs.Tallies.{tally, tallyOf, entryIn, entriesOf, plus}
 use Rattle.places.specs.Places.{Held, dayIn, placesOn, placesIn}

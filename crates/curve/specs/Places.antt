@@ -10,8 +10,8 @@ use Rattle.note.specs.Coefficients.{theta, coefficientC}
 use Rattle.rounding.specs.Points.{rounded, level}
 use Rattle.meaning.specs.Points.{Place}
 use Rattle.meaning.specs.Level.{missingEntry}
-use Rattle.donors.specs.declared.Basis.{Basis}
-use Rattle.points.specs.Cases.{meantCase, caseOfCode}
+use Rattle.own_points.specs.declared.Basis.{Basis}
+use Rattle.cases.specs.Cases.{meantCase, caseOfCode}
 use Rattle.years.specs.Years.{casFrom, casSum}
 use Rattle.curve.specs.declared.Filling.{Filling}
 use Rattle.tallies.specs.Tallies.{tallyOf, entryIn}

@@ -4,17 +4,16 @@ ghost use Prim.Native.Nat.{_≤_, _<_};
 ghost use lib.ListN.{replicate};
 ghost use Rattle.meaning.specs.Level.{missingEntry};
 ghost use Rattle.years.specs.Years.{casFrom};
-ghost use Rattle.donors.specs.Fits.{BasisFits};
+ghost use Rattle.own_points.specs.Fits.{BasisFits};
 ghost use Rattle.points.specs.Fits.{RatesFit};
 ghost use Rattle.places.specs.Places.{held, heldWith, marks};
 ghost use Rattle.places.specs.Fits.{HeldFits};
 ghost use Rattle.curve.specs.Places.{basisOf};
 ghost use Rattle.curve.specs.Fits.{SiteFits, ListsFit, BasisIs, Filled};
 use crate::Filling;
-use donors::Basis;
+use own_points::Basis;
 use places::Marks;
 use points::Year;
-use points::cases;
 use years::factors;
 
 // Each year in turn, from a curve whose entries are all missing. A year's points do not stop where one is refusal 18: the curve is then not used.

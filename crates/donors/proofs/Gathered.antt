@@ -15,12 +15,14 @@ use Rattle.lists.proofs.Sums.{Held, each-tab, each-present}
 use Rattle.rounding.specs.Answers.{mW, pointOf}
 use Rattle.rounding.specs.Points.{mostPoint, rounded, rebuilt, exceeds}
 use Rattle.meaning.specs.Points.{Origin, Donor, own, ownOf, meant, sourceExceeds, originExceeds, roundedOrigin, donorPoints, donorCas, rebuiltBy}
-use Rattle.donors.specs.declared.Filled.{Filled}
+use Rattle.own_points.specs.declared.Filled.{Filled}
+use Rattle.own_points.specs.Filled.{filledWhere, filledOf, filledBy}
+use Rattle.own_points.specs.Fits.{FilledFits, FilledIs}
+use Rattle.own_points.proofs.Fillings.{by-point, point-fits}
 use Rattle.donors.specs.declared.Donors.{Donors}
-use Rattle.donors.specs.Filled.{filledWhere, filledOf, donorsWhere, donorsOf, withDonor, rebuiltFrom, filledBy}
+use Rattle.donors.specs.Sums.{donorsWhere, donorsOf, withDonor, rebuiltFrom}
 use Rattle.donors.specs.Given.{donorBy, donorsAmong}
-use Rattle.donors.specs.Fits.{FilledFits, FilledIs, DonorsFit, DonorsAre, CasFit}
-use Rattle.donors.proofs.Fillings.{by-point, point-fits}
+use Rattle.donors.specs.Fits.{DonorsFit, DonorsAre, CasFit}
 
 -- the sums so far and the donors that are left
 unfoldable pub joined : Donors → List Donor → Donors

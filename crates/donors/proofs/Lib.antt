@@ -1,2 +1,2 @@
-pub mod Fillings
+pub mod Given
 pub mod Gathered

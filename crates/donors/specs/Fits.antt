@@ -1,35 +1,12 @@
--- What is known of a site and its lists once 1, 14 and 15 to 17 have passed, and what a point and its donors' sums come to.
+-- What is known of the history years' CA once 1, 14 and 15 to 17 have passed, and what the donors' sums come to.
 use mathlib.Core.Path.{_≡_}
-use mathlib.Core.Bool.{Bool, _||_}
 use mathlib.Core.List.{List}
 use Prim.Native.Nat.{ℕ, _*_, _≤_, _<_}
-use lib.Dec.{T, eqb, leb}
 use lib.ListN.{getD}
-use Rattle.meaning.specs.Points.{Source, Donor}
-use Rattle.meaning.specs.Blocks.{missingPoint}
-use Rattle.rounding.specs.Points.{mostPoint}
-use Rattle.curves.specs.Rows.{rowOf}
+use Rattle.meaning.specs.Points.{Donor}
 use Rattle.years.specs.Fits.{AtMost}
-use Rattle.donors.specs.declared.Basis.{Basis}
 use Rattle.donors.specs.declared.Donors.{Donors}
-use Rattle.donors.specs.declared.Filled.{Filled}
-use Rattle.donors.specs.Filled.{filledOf, donorsOf}
-
--- a point's code: missing, or at most 100,000,000 W
-unfoldable pub isPoint : ℕ → Bool
-isPoint v = eqb v missingPoint || leb v 100000000
-
--- the points of every year's row
-abbrev pub PointsFit : ℕ → List ℕ → List ℕ → Type 0
-PointsFit al near far = (y i : ℕ) → T (isPoint (getD (rowOf al near far y) i missingPoint))
-
-pub record BasisFits (b : Basis) : Type 0 where
-  pub first : b .first ≤ 2021
-  pub count : b .count ≤ 10
-  pub ps : b .ps ≤ 100000000
-  pub theta : b .theta ≤ 100000
-  pub some-cas : 0 < b .cas
-  pub most-cas : b .cas ≤ 99990
+use Rattle.donors.specs.Sums.{donorsOf}
 
 -- CA of the history years is 1 to 9,999
 pub record CasFit (n : ℕ) (cas : List ℕ) : Type 0 where
@@ -41,21 +18,6 @@ abbrev pub DonorsFit : ℕ → Donors → Type 0
 DonorsFit n Donors.Exceed = Unit {0}
 DonorsFit n (Donors.Are p c) = (p ≤ n * 200000000000) × (c ≤ n * 9999)
 
--- a place's point, which is at most at the limit of 18
-abbrev pub FilledFits : Filled → Type 0
-FilledFits Filled.Missing = Unit {0}
-FilledFits Filled.Exceeds = Unit {0}
-FilledFits (Filled.Is p) = p .0 ≤ mostPoint
-
-pub record FilledIs (s : Source) (r : Filled) : Type 0 where
-  pub is : r ≡ filledOf s
-  pub fits : FilledFits r
-
 pub record DonorsAre (n : ℕ) (ds : List Donor) (r : Donors) : Type 0 where
   pub are : r ≡ donorsOf ds
   pub fit : DonorsFit n r
-
--- a profile value of a slot
-pub record ProfileIs (p r : ℕ) : Type 0 where
-  pub is : r ≡ p
-  pub fits : r ≤ 65535

@@ -1,3 +1,3 @@
-pub mod Filled
+pub mod Sums
 pub mod Given
 pub mod Fits

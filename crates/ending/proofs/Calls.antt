@@ -30,9 +30,9 @@ use Rattle.answers.specs.declared.Answer.the-variants.{Refused, Reports}
 use Rattle.early.specs.Stops.{lengthsFit}
 use Rattle.early.proofs.Laws.{six, parts}
 use Rattle.ending.specs.declared.Ended.{Ended}
-use Rattle.ending.specs.Stops.{allFit, closeStop}
+use Rattle.close_stops.specs.Stops.{allFit, closeStop}
 use Rattle.ending.specs.Ends.{Handed, hands, endsBack, noYears, answerShown, yearsBeside, handed, refusedOf, toldOf}
-use Rattle.ending.proofs.Laws.{within, all-fit, not-stopped}
+use Rattle.close_stops.proofs.Laws.{within, all-fit, not-stopped}
 
 -- ---- 1, 13 and 14
 stopped-out : (s : Rec) (w : World) (n : ℕ) → n ≡ closeStop (sizesFit w && (recFits s && contentsFit s w)) (s .state) (s .last) → (n ≡ 0 → ⊥)

@@ -1,9 +1,9 @@
 // The close.
 use crate::Ended;
-use crate::stops::close_stop;
 use crate::telling::refuse;
 use crate::telling::stopped_state;
 use crate::telling::tell;
+use close_stops::close_stop;
 use closing::Closing;
 use closing::close_file;
 use readings::Columns;

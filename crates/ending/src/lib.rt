@@ -2,7 +2,6 @@
 //
 // The record is handed back by its state alone: a close changes nothing else of it.
 mod ends; // the close
-mod stops; // 1, 13 and 14
 mod telling; // what is handed back
 
 use answers::Answer;

@@ -1,3 +1,1 @@
-pub mod Held
-pub mod Stepping
 pub mod Turns

@@ -1,17 +1,18 @@
 // A piece of the input, of any size.
 use crate::Fed;
-use crate::Run;
-use crate::steps::is_answered;
-use crate::steps::step;
 use begun::end;
 use begun::least;
 use begun::room;
 use readings::Reading;
+use steps::Run;
+use steps::is_answered;
+use steps::step;
 ghost use mathlib.Core.Path.{_≡_};
 ghost use Rattle.pieces.specs.Run.{fed};
 ghost use Rattle.readings.specs.Readings.{seen};
 ghost use Rattle.readings.specs.Columns.{world};
-ghost use Rattle.feed.specs.Views.{runView, EachCurve};
+ghost use Rattle.steps.specs.Views.{runView};
+ghost use Rattle.feed.specs.Curves.{EachCurve};
 
 const CURVE: usize = 4400;
 

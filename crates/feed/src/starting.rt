@@ -1,12 +1,12 @@
 // A run at its start.
-use crate::Run;
 use site::Opened;
+use steps::Run;
 ghost use mathlib.Core.Path.{_≡_};
 ghost use mathlib.Core.List.{[]};
 ghost use Rattle.meaning.specs.Blocks.{World};
 ghost use Rattle.pieces.specs.Run.{runOf};
 ghost use Rattle.site.specs.Views.{handsBack};
-ghost use Rattle.feed.specs.Views.{runView};
+ghost use Rattle.steps.specs.Views.{runView};
 
 // On a record that was opened: no line is begun.
 pub fn start(opened: Opened) -> Run

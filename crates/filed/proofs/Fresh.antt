@@ -15,7 +15,7 @@ use Rattle.readings.proofs.Laws.{seen-length}
 use Rattle.opening.specs.Opens.{Opens}
 use Rattle.site.specs.declared.Record.{Record}
 use Rattle.site.specs.Views.{view, openedBy}
-use Rattle.filed.specs.Ends.{freshReadings}
+use Rattle.own_readings.specs.Start.{freshReadings}
 
 pub fresh-is : replicate 600 fresh ≡ freshReadings
 unfolding freshReadings

@@ -21,13 +21,14 @@ use Rattle.pieces.proofs.Answers.{answer-comes}
 use Rattle.closing.specs.declared.Year.{Year}
 use Rattle.answers.specs.declared.Answer as answers
 use Rattle.ending.specs.Ends.{Handed, hands, handed}
-use Rattle.sheet.specs.declared.Printed.{Printed}
-use Rattle.sheet.specs.Shown.{sheetText, Holds}
+use Rattle.shown.specs.declared.Printed.{Printed}
+use Rattle.shown.specs.Shown.{sheetText, Holds}
 use Rattle.sheet.proofs.Texts.{sheet-text}
-use Rattle.filed.specs.declared.End.{End}
-use Rattle.filed.specs.declared.End.the-variants.{Answer, Input, Failure}
-use Rattle.filed.specs.declared.Left.{Left}
-use Rattle.filed.specs.Ends.{left, leftAfter, textTold, HandsOut}
+use Rattle.ends.specs.declared.End.{End}
+use Rattle.ends.specs.declared.End.the-variants.{Answer, Input, Failure}
+use Rattle.ends.specs.declared.Left.{Left}
+use Rattle.ends.specs.Ends.{left, leftAfter, textTold}
+use Rattle.filed.specs.Ends.{HandsOut}
 
 -- it has its answer, or the turns left and the bytes so far are enough for one; else no turn is left
 unfoldable pub Stands : End → Run → ℕ → List ℕ → Type 0

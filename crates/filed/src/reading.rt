@@ -1,25 +1,26 @@
 // Reading a descriptor to the run's answer or the input's end.
-use crate::End;
-use crate::Filed;
-use crate::ends::after;
-use crate::ends::told;
+use ends::End;
+use ends::Filed;
+use ends::after;
+use ends::told;
 use feed::Fed;
 use feed::feed;
-use feed::is_answered;
 use feed::start;
 use opening::open_blocks;
-use readings::Kind;
-use readings::Reading;
+use own_readings::fresh_readings;
 use sheet::finish;
 use site::Record;
 use site::open_answer;
+use steps::is_answered;
 ghost use mathlib.Core.Path.{_≡_};
 ghost use Rattle.meaning.specs.Record.{neverOpened};
 ghost use Rattle.pieces.specs.Run.{started, fed};
 ghost use Rattle.readings.specs.Readings.{seen};
 ghost use Rattle.readings.specs.Columns.{world};
-ghost use Rattle.feed.specs.Views.{runView, EachCurve};
-ghost use Rattle.filed.specs.Ends.{freshReadings, HandsOut};
+ghost use Rattle.steps.specs.Views.{runView};
+ghost use Rattle.feed.specs.Curves.{EachCurve};
+ghost use Rattle.own_readings.specs.Start.{freshReadings};
+ghost use Rattle.filed.specs.Ends.{HandsOut};
 
 // One more than the bytes after which a run has its answer: 8,032 lines of 321. Each turn reads one or more.
 const TURNS: u64 = 2_578_273;
@@ -38,14 +39,9 @@ fn begin(
 {
     let sized = open_blocks(near, far, slots, daily, READINGS, curve);
     let opened = open_answer(Record::never_opened(), sized);
-    let fresh = Reading {
-        position: 0,
-        count: 0,
-        kind: Kind::E,
-    };
     Fed {
         run: start(opened),
-        readings: [fresh; 600],
+        readings: fresh_readings(),
     }
 }
 
@@ -98,5 +94,7 @@ pub fn run(fd: i32) -> Filed
         &mut daily,
         &mut curve,
     );
-    told(end, closed)
+    let answer = closed.answer;
+    let years = closed.years;
+    told(end, answer, years)
 }

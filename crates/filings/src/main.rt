@@ -1,5 +1,5 @@
 // Writes the name and the sheet of each filing that its arguments name.
-use filed::End;
+use ends::End;
 use libc::STDOUT_FILENO;
 
 fn sheet_of(name: &[u8]) {

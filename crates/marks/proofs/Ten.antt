@@ -12,8 +12,8 @@ use Rattle.lists.specs.Lists.{tab}
 use Rattle.lists.proofs.Laws.{length-tab, getD-tab0}
 use Rattle.lists.proofs.Turns.{set-tab}
 use Rattle.meaning.specs.Cases.{isDefault}
-use Rattle.points.specs.Cases.{caseOfCode, meantCase}
-use Rattle.points.specs.declared.Case.the-variants.{M, T1, T2, T3, P, I5}
+use Rattle.cases.specs.Cases.{caseOfCode, meantCase}
+use Rattle.cases.specs.declared.Case.the-variants.{M, T1, T2, T3, P, I5}
 use Rattle.marks.specs.Marks.{byHistory}
 
 module _ {A : Type 0} (z : A) (f : ℕ → A) where

@@ -12,8 +12,8 @@ use Rattle.curves.specs.Rows.{rowOf}
 use Rattle.curves.specs.Availability.{validRow}
 use Rattle.intervals.specs.Columns.{isSet}
 use Rattle.intervals.specs.Index.{validIndex}
-use Rattle.points.specs.Cases.{isCurve, meantCase, caseOfCode, caseCodes}
-use Rattle.points.specs.Sources.{bit}
+use Rattle.cases.specs.Cases.{isCurve, meantCase, caseOfCode, caseCodes}
+use Rattle.years.specs.Years.{bit}
 use Rattle.marks.specs.declared.Marks.{Marks}
 
 -- ten places by history year: n by number, and the rest z for years that the file does not have

@@ -5,8 +5,8 @@ ghost use lib.ListN.{length};
 ghost use Rattle.intake.specs.Views.{meterView};
 ghost use Rattle.curves.specs.Rows.{rowOf};
 ghost use Rattle.curves.specs.Availability.{validRow};
-ghost use Rattle.points.specs.Cases.{isCurve};
-ghost use Rattle.points.specs.Sources.{bit};
+ghost use Rattle.cases.specs.Cases.{isCurve};
+ghost use Rattle.years.specs.Years.{bit};
 ghost use Rattle.marks.specs.Marks.{curveMarks, indexMarks, defaultMark, defaultMarks, marksHeld};
 use crate::Marks;
 use calendar::Years;
@@ -121,7 +121,7 @@ pub fn marks_of<'a>(
     let years = h.count as usize;
     let curves = curve_marks(near, far, al, h, breaks);
     let indexes = index_marks(positions, kinds, n, years, breaks);
-    let codes = points::cases::cases_of(is_curve(meter), years, &curves, &indexes);
+    let codes = cases::cases_of(is_curve(meter), years, &curves, &indexes);
     let defaults = default_marks(codes, years);
     Marks {
         curves,

@@ -1,5 +1,5 @@
 // Writes the sheet of the filing on standard input.
-use filed::End;
+use ends::End;
 use libc::STDERR_FILENO;
 use libc::STDIN_FILENO;
 use libc::STDOUT_FILENO;

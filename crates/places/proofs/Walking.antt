@@ -17,9 +17,9 @@ use Rattle.note.specs.Peaks.{peakDays, peakCount}
 use Rattle.note.proofs.PeakDays.{days-length}
 use Rattle.meaning.specs.Cases.{Case}
 use Rattle.meaning.specs.Points.{Place, Source}
-use Rattle.donors.specs.declared.Basis.{Basis}
-use Rattle.donors.specs.declared.Filled.{Filled}
-use Rattle.donors.specs.Fits.{FilledIs}
+use Rattle.own_points.specs.declared.Basis.{Basis}
+use Rattle.own_points.specs.declared.Filled.{Filled}
+use Rattle.own_points.specs.Fits.{FilledIs}
 use Rattle.years.specs.declared.Day.{Day as YearsOnDay}
 use Rattle.years.specs.Years.{yearsOn, onDay, positionIn}
 use Rattle.points.specs.Sources.{Day, dayWith, sourceIn}

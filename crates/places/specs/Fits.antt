@@ -8,8 +8,9 @@ use Rattle.note.specs.Peaks.{peakDays}
 use Rattle.meaning.specs.Points.{Place}
 use Rattle.meaning.specs.Blocks.{slotsSize}
 use Rattle.years.specs.Fits.{AtMost}
-use Rattle.donors.specs.declared.Basis.{Basis}
-use Rattle.donors.specs.Fits.{PointsFit, CasFit}
+use Rattle.own_points.specs.declared.Basis.{Basis}
+use Rattle.own_points.specs.Fits.{PointsFit}
+use Rattle.donors.specs.Fits.{CasFit}
 use Rattle.tallies.specs.declared.Tally.{Tally}
 use Rattle.tallies.specs.Tallies.{tallyOf, entriesOf}
 use Rattle.tallies.specs.Fits.{TallyFits}

@@ -6,7 +6,7 @@ use Rattle.note.specs.Peaks.{peakDays}
 use Rattle.meaning.specs.Cases.{Case}
 use Rattle.meaning.specs.Points.{Place}
 use Rattle.years.specs.Years.{onDay, giversOn}
-use Rattle.donors.specs.declared.Basis.{Basis}
+use Rattle.own_points.specs.declared.Basis.{Basis}
 use Rattle.points.specs.Sources.{Day, day, sourceIn}
 use Rattle.tallies.specs.Tallies.{place}
 use Rattle.places.specs.declared.Marks.{Marks}

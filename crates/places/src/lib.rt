@@ -1,16 +1,15 @@
 // The half-hours of a day and the peak days of a year: each point is entered into the curve and tallied.
 ghost use Prim.Native.Nat.{_+_, _*_, _≤_, _<_};
 ghost use Rattle.note.specs.Peaks.{peakCount};
-ghost use Rattle.donors.specs.Fits.{BasisFits};
-ghost use Rattle.points.specs.Cases.{meantCase};
+ghost use Rattle.own_points.specs.Fits.{BasisFits};
+ghost use Rattle.cases.specs.Cases.{meantCase};
 ghost use Rattle.points.specs.Sources.{dayWith};
 ghost use Rattle.points.specs.Fits.{DayFits, RateFits};
 ghost use Rattle.places.specs.Places.{heldWith, placesOn, placesIn};
 ghost use Rattle.places.specs.Fits.{HeldFits, Entered, PeakDayIs};
-use donors::Basis;
 use note::peaks::PeakDay;
+use own_points::Basis;
 use points::Year;
-use points::place;
 use tallies::Tally;
 use years::Day;
 use years::days;
@@ -47,7 +46,7 @@ fn half_hours<'a>(
     let mut t = tallies::NOTHING;
     let mut h = 0;
     while h < 20 {
-        let f = place::filled(b, y, near, far, slots, &e, &d, &g, curves, cas, w, h);
+        let f = points::filled(b, y, near, far, slots, &e, &d, &g, curves, cas, w, h);
         let v = tallies::entry_of(f, y.rate);
         let i = at + h;
         curve[i] = v;

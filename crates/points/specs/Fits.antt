@@ -4,11 +4,12 @@ use mathlib.Core.List.{List}
 use Prim.Native.Nat.{ℕ, _≤_}
 use lib.ListN.{length, getD}
 use Rattle.meaning.specs.Blocks.{slotsSize}
-use Rattle.donors.specs.declared.Basis.{Basis}
+use Rattle.own_points.specs.declared.Basis.{Basis}
 use Rattle.points.specs.Sources.{Day}
 -- of a point's code, a list's numbers, and a site's basis and CA
-unfoldable pub use Rattle.donors.specs.Fits.{isPoint}
-pub use Rattle.donors.specs.Fits.{PointsFit, BasisFits, CasFit}
+unfoldable pub use Rattle.own_points.specs.Fits.{isPoint}
+pub use Rattle.own_points.specs.Fits.{PointsFit, BasisFits}
+pub use Rattle.donors.specs.Fits.{CasFit}
 pub use Rattle.years.specs.Fits.{AtMost}
 
 -- a rate's code: none, or 10 to 1000 thousandths

@@ -1,3 +1,2 @@
-pub mod Cases
 pub mod Sources
 pub mod Fits

@@ -5,8 +5,9 @@ use lib.ListN.{getD}
 use Rattle.meaning.specs.Cases.{Case, caseM, case1, case2, case3, case4, caseP, case5, case6}
 use Rattle.meaning.specs.Points.{Donor, Source, own, fromDefault, ownOf, rebuiltBy}
 unfoldable pub use Rattle.years.specs.Years.{bit, positionIn, casFrom}
-use Rattle.donors.specs.declared.Basis.{Basis}
-use Rattle.donors.specs.Given.{readIn, profileIn, profiledOn, curveGiven, indexGiven, donorsAmong}
+use Rattle.own_points.specs.declared.Basis.{Basis}
+use Rattle.own_points.specs.Given.{readIn, profileIn, profiledOn}
+use Rattle.donors.specs.Given.{curveGiven, indexGiven, donorsAmong}
 use Rattle.years.specs.declared.Day.{Day as YearsOnDay}
 
 -- ---- what the points of a day are made from

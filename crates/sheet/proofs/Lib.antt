@@ -1,4 +1,2 @@
-pub mod Rows
-pub mod Years
 pub mod Texts
 pub mod Ends

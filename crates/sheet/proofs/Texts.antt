@@ -20,8 +20,8 @@ use Rattle.demands.specs.CallLists.{sheetOfAnswer}
 use Rattle.pieces.specs.Run.{Run, runOf, isAnswered, started, given, longer, fedByte, fed, fedAll, shut, lastLine, ended, ranOver, textGiven}
 use Rattle.pieces.proofs.Pieces.{pieces-text}
 use Rattle.ending.specs.Ends.{Handed, answerShown, yearsBeside, handed}
-use Rattle.sheet.specs.Shown.{sheetText}
-use Rattle.sheet.proofs.Years.{Printable, rows-shown, none-printable, report-printable}
+use Rattle.shown.specs.Shown.{sheetText}
+use Rattle.shown.proofs.Years.{Printable, rows-shown, none-printable, report-printable}
 
 -- the years of a report are printable
 unfoldable pub Prints : Answer → Type 0

@@ -1,15 +1,17 @@
 // The end of the input.
 use answers::Answer;
+use begun::is_begun;
 use closing::Year;
 use ending::close_blocks;
-use feed::Run;
-use feed::is_answered;
-use feed::step;
+use own_readings::stored;
 use readings::Reading;
 use readings::columns_in;
 use site::Closed;
 use site::Record;
 use site::close_answer;
+use steps::Run;
+use steps::is_answered;
+use steps::step;
 ghost use mathlib.Core.Path.{_≡_};
 ghost use mathlib.Core.Bool.{_&&_, not};
 ghost use lib.Dec.{ltb};
@@ -20,7 +22,7 @@ ghost use Rattle.readings.specs.Readings.{seen};
 ghost use Rattle.readings.specs.Columns.{world};
 ghost use Rattle.ending.specs.Ends.{handed};
 ghost use Rattle.site.specs.Views.{view, closesBack};
-ghost use Rattle.feed.specs.Views.{runView};
+ghost use Rattle.steps.specs.Views.{runView};
 ghost use Rattle.sheet.specs.Ended.{unclosedOf, SomeReadings};
 
 const READINGS: usize = 600;
@@ -79,10 +81,7 @@ fn has_last(run: Run) -> bool
     ensures { λ r. ⌜ r ≡ (not (isAnswered (answerView (run .answer))) && ltb 0 (run .held)) ⌝ }
 {
     let answer = run.answer;
-    if is_answered(answer) {
-        return false;
-    }
-    0 < run.held
+    is_begun(is_answered(answer), run.held)
 }
 
 // The readings are not handed back.
@@ -102,12 +101,8 @@ pub fn finish(
     }
     let line = run.line;
     let s = step(run, &line[..0], true, near, far, slots, daily, curve.len());
-    let slot = s.slot;
     let last = s.run;
-    let mut readings = lent;
-    if slot < READINGS {
-        let reading = s.reading;
-        readings[slot] = reading;
-    }
+    let reading = s.reading;
+    let readings = stored(lent, s.slot, reading);
     shut_run(last, readings, near, far, slots, daily, curve)
 }

@@ -14,10 +14,11 @@ use Rattle.judge.specs.Order.{numberBy}
 use Rattle.judge.specs.Before.{Known, beforePoints, beforeRising, beforeReading}
 use Rattle.judge.proofs.Chain.{no-refusal}
 use Rattle.judge.proofs.Records.{before-C, before-P, before-D, before-X}
-use Rattle.dated.specs.Answers.{dateJudged, readingJudged, dailyJudged}
-use Rattle.dated.specs.declared.DateJudged.{DateJudged}
-use Rattle.dated.specs.declared.ReadingJudged.{ReadingJudged}
-use Rattle.dated.specs.declared.DailyJudged.{DailyJudged}
+use Rattle.winter_lines.specs.Answers.{dateJudged}
+use Rattle.axis_lines.specs.Answers.{readingJudged, dailyJudged}
+use Rattle.winter_lines.specs.declared.DateJudged.{DateJudged}
+use Rattle.axis_lines.specs.declared.ReadingJudged.{ReadingJudged}
+use Rattle.axis_lines.specs.declared.DailyJudged.{DailyJudged}
 use Rattle.taking.proofs.Rows.{Row}
 use Rattle.taking.proofs.Changed.{profiles-row, profiles-history, daily-row, daily-axis, position-D, position-X}
 

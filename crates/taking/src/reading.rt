@@ -2,7 +2,7 @@
 use crate::Progress;
 use crate::Step;
 use crate::answers::answer;
-use dated::judge_reading;
+use axis_lines::judge_reading;
 ghost use Rattle.meaning.specs.Line.{X};
 ghost use Rattle.judge.specs.Before.{Known};
 ghost use Rattle.taking.specs.Views.{StepsTo};

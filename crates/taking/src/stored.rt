@@ -2,14 +2,14 @@
 use crate::Progress;
 use crate::Step;
 use crate::answers::answer;
+use axis_lines::judge_daily;
 use blocks::stores::put_points;
 use blocks::stores::put_profiles;
 use blocks::stores::put_sum;
 use calendar::spans::axis;
 use calendar::spans::history;
-use dated::judge_daily;
-use dated::judge_points;
-use dated::judge_profiles;
+use winter_lines::judge_points;
+use winter_lines::judge_profiles;
 ghost use mathlib.Core.Path.{_≡_};
 ghost use lib.ListN.{length};
 ghost use Rattle.meaning.specs.Line.{C, D, P};

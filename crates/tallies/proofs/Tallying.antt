@@ -16,9 +16,9 @@ use Rattle.rounding.proofs.Formulas.{rated-most}
 use Rattle.meaning.specs.Points.{Source, Place, meant, sourceExceeds, pointAt, ratedBy, withRate}
 use Rattle.meaning.specs.Level.{missingEntry, entryOf}
 use Rattle.meaning.specs.Record.{rateOfCode}
-use Rattle.donors.specs.declared.Filled.{Filled}
-use Rattle.donors.specs.Filled.{filledOf, filledWhere}
-use Rattle.donors.specs.Fits.{FilledFits, FilledIs}
+use Rattle.own_points.specs.declared.Filled.{Filled}
+use Rattle.own_points.specs.Filled.{filledOf, filledWhere}
+use Rattle.own_points.specs.Fits.{FilledFits, FilledIs}
 use Rattle.points.specs.Fits.{RateFits}
 use Rattle.tallies.specs.declared.Tally.{Tally}
 use Rattle.tallies.specs.Tallies.{tally, place, pointIn, exceedsIn, tallyOf, entryIn, entriesOf, plus, entryFilled, tallyFilled}

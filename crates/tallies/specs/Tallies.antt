@@ -8,7 +8,7 @@ use Rattle.lists.specs.Lists.{any, present, sum}
 use Rattle.meaning.specs.Points.{Place, Source, sourceExceeds, pointAt, withRate}
 use Rattle.meaning.specs.Level.{missingEntry, entryOf}
 use Rattle.meaning.specs.Record.{rateOfCode}
-use Rattle.donors.specs.declared.Filled.{Filled}
+use Rattle.own_points.specs.declared.Filled.{Filled}
 use Rattle.tallies.specs.declared.Tally.{Tally}
 
 abbrev pub tally : Bool → ℕ → ℕ → Tally

@@ -1,11 +1,11 @@
 // A place's entry in the curve, and sums over places (document 01, Cases; 18).
 ghost use mathlib.Core.Path.{_≡_};
 ghost use Prim.Native.Nat.{_+_, _≤_, _<_, _*_};
-ghost use Rattle.donors.specs.Fits.{FilledFits};
+ghost use Rattle.own_points.specs.Fits.{FilledFits};
 ghost use Rattle.points.specs.Fits.{RateFits};
 ghost use Rattle.tallies.specs.Tallies.{entryFilled, tallyFilled};
 ghost use Rattle.tallies.specs.Tallies.{plus as Tallies·plus};
-use donors::Filled;
+use own_points::Filled;
 
 // Of some places: whether 18 holds, the sum in mW of the points that are there, and how many there are.
 pub struct Tally {

@@ -7,7 +7,7 @@ use native.Mathlib.Nat.{add-zero}
 use native.Mathlib.Omega.{arith}
 use lib.ListN.{set}
 use Rattle.meaning.specs.Points.{Place}
-use Rattle.points.specs.Cases.{meantCase}
+use Rattle.cases.specs.Cases.{meantCase}
 use Rattle.points.specs.Sources.{day, dayWith, sourceIn}
 use Rattle.tallies.specs.Tallies.{tally, plus, tallyFilled}
 use Rattle.places.specs.Places.{placesOn}
@@ -22,7 +22,7 @@ use Rattle.places.proofs.half_hours.Lts as lts
 use Rattle.tallies.proofs.entry_of.Reads as entry-of-reads
 use Rattle.tallies.proofs.plus.Reads as plus-reads
 use Rattle.tallies.proofs.tally_of.Reads as tally-of-reads
-use Rattle.points.proofs.place.filled.Reads as filled-reads
+use Rattle.points.proofs.filled.Reads as filled-reads
 
 abbrev Inv-loop : tie.InvT-loop
 Inv-loop b y near far slots curves cas w at curve₀ e d g t₀ h₀ curve t h =

@@ -7,7 +7,7 @@ use native.Mathlib.Omega.{arith}
 use Rattle.note.specs.Peaks.{peakCount}
 use Rattle.note.proofs.PeakDays.{most-days}
 use Rattle.meaning.specs.Points.{Place}
-use Rattle.points.specs.Cases.{meantCase}
+use Rattle.cases.specs.Cases.{meantCase}
 use Rattle.points.specs.Sources.{Day}
 use Rattle.points.specs.Fits.{DayFits}
 use Rattle.tallies.specs.Tallies.{tally, plus}

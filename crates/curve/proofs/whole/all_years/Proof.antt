@@ -5,7 +5,7 @@ use borrow.Author.Needs.{needs}
 use native.Mathlib.Omega.{arith}
 use lib.ListN.{length, getD, set}
 use Rattle.lists.proofs.Laws.{length-tab}
-use Rattle.points.specs.Cases.{meantCase, caseOfCode}
+use Rattle.cases.specs.Cases.{meantCase, caseOfCode}
 use Rattle.tallies.specs.Tallies.{plus}
 use Rattle.places.specs.Places.{heldWith, placesIn}
 use Rattle.curve.specs.Places.{placesOf, allPlacesIn, presentYears, fillingOf, curveEntryIn, curveIn}
@@ -18,7 +18,7 @@ use Rattle.curve.proofs.whole.all_years.Reads as reads
 use Rattle.curve.proofs.whole.all_years.Lts as lts
 use Rattle.tallies.proofs.plus.Reads as plus-reads
 use Rattle.places.proofs.year_places.Reads as year-places-reads
-use Rattle.points.proofs.cases.case_at.Reads as case-at-reads
+use Rattle.cases.proofs.case_at.Reads as case-at-reads
 
 abbrev Inv-loop : tie.InvT-loop
 Inv-loop b m near far slots energies totals codes rates curve₀ n t₀ present₀ k₀ curve t present k =

@@ -1,7 +1,7 @@
 use mathlib.Core.Path.{_≡_, refl, sym, ap, subst, _∙_}
 use Prim.Native.Nat.{ℕ}
 use native.Mathlib.Omega.{arith}
-use Rattle.donors.specs.declared.Basis.{Basis}
+use Rattle.own_points.specs.declared.Basis.{Basis}
 use Rattle.years.specs.Years.{casSum, casFrom}
 use Rattle.points.specs.Fits.{BasisFits}
 use Rattle.curve.specs.Places.{basisOf}

@@ -4,16 +4,16 @@ use borrow.Author.Needs.{needs}
 use lib.ListN.{length}
 use Rattle.readings.specs.Readings.{seen}
 use Rattle.readings.specs.Columns.{world}
-use Rattle.feed.specs.Views.{runView}
+use Rattle.steps.specs.Views.{runView}
 use Rattle.filed.proofs.Fresh.{fresh-sized}
 use Rattle.filed.proofs.Going.{Going, going-first, going-next, fewer, hands-out}
 use Rattle.filed.proofs.reading.run.Statement.{statement}
 use Rattle.filed.proofs.reading.run.Tie as tie
 use Rattle.filed.proofs.reading.run.Reads as reads
 use Rattle.filed.proofs.reading.run.Lts as lts
-use Rattle.feed.proofs.is_answered.Reads as is-answered-reads
-use Rattle.filed.proofs.ends.after.Reads as after-reads
-use Rattle.filed.proofs.ends.told.Reads as told-reads
+use Rattle.steps.proofs.is_answered.Reads as is-answered-reads
+use Rattle.ends.proofs.after.Reads as after-reads
+use Rattle.ends.proofs.told.Reads as told-reads
 use Rattle.filed.proofs.reading.begin.Reads as begin-reads
 use Rattle.filed.proofs.reading.go_on.Reads as go-on-reads
 use Rattle.io.proofs.count.Reads as count-reads
@@ -30,97 +30,74 @@ abbrev μ-loop : tie.MeasureT-loop
 μ-loop fd near₀ far₀ slots₀ daily₀ curve fed₀ buf₀ turns₀ end₀ near far slots daily fed buf turns end =
     turns
 
--- src/reading.rt:76:25
 slice-aggregate-begin : tie.Need-slice-aggregate-begin Inv-loop μ-loop
 slice-aggregate-begin c = refl
 
--- src/reading.rt:76:36
 slice-aggregate-begin-2 : tie.Need-slice-aggregate-begin-2 Inv-loop μ-loop
 slice-aggregate-begin-2 c = refl
 
--- src/reading.rt:76:46
 slice-aggregate-begin-3 : tie.Need-slice-aggregate-begin-3 Inv-loop μ-loop
 slice-aggregate-begin-3 c = refl
 
--- src/reading.rt:76:58
 slice-aggregate-begin-4 : tie.Need-slice-aggregate-begin-4 Inv-loop μ-loop
 slice-aggregate-begin-4 c = refl
 
--- src/reading.rt:76:70
 slice-aggregate-begin-5 : tie.Need-slice-aggregate-begin-5 Inv-loop μ-loop
 slice-aggregate-begin-5 c = refl
 
--- src/reading.rt:76:9
 begin-requires : tie.Need-begin-requires Inv-loop μ-loop
 begin-requires c κs = search needs
 
--- src/reading.rt:77:19
 large-buffer-requires : tie.Need-large-buffer-requires Inv-loop μ-loop
 large-buffer-requires c κs = search needs
 
--- src/reading.rt:80:5
 loop-holds : tie.Need-loop-holds Inv-loop μ-loop
 loop-holds c =
     let o = c .before .before .before .before .before .before .begin in
     (o .kept .0, o .kept .1 .0, o .kept .1 .1 .0, o .kept .1 .1 .1 .0, o .kept .1 .1 .1 .1 .0, sym (c .large-buffer .ensures), going-first _ _ _ _ (fresh-sized _ _ _ _ _ refl refl refl refl refl) (o .ensures) (omega arith))
 
--- src/reading.rt:81:34
 slice-aggregate-read : tie.Need-slice-aggregate-read Inv-loop μ-loop
 slice-aggregate-read c = sym (c .before .before .loop .inv .5)
 
--- src/reading.rt:81:13
 read-requires : tie.Need-read-requires Inv-loop μ-loop
 read-requires c κs = search needs
 
--- src/reading.rt:82:32
 slice-aggregate-count : tie.Need-slice-aggregate-count Inv-loop μ-loop
 slice-aggregate-count c = sym (c .before .before .read .kept .1 .0 ∙ c .before .before .before .before .before .loop .inv .5)
 
--- src/reading.rt:82:13
 count-requires : tie.Need-count-requires Inv-loop μ-loop
 count-requires c κs = search needs
 
--- src/reading.rt:83:26
 array-share-prefix-buf : tie.Need-array-share-prefix-buf Inv-loop μ-loop
 array-share-prefix-buf c = omega (arith, c .count .ensures .0 .0, c .before .before .before .read .kept .1 .0, c .before .before .before .before .before .before .loop .inv .5)
 
--- src/reading.rt:83:26
 slice-aggregate-go-on : tie.Need-slice-aggregate-go-on Inv-loop μ-loop
 slice-aggregate-go-on c = c .before .count .ensures .0 .1
 
--- src/reading.rt:83:37
 slice-aggregate-go-on-2 : tie.Need-slice-aggregate-go-on-2 Inv-loop μ-loop
 slice-aggregate-go-on-2 c = sym (c .before .before .before .before .before .before .before .before .loop .inv .0)
 
--- src/reading.rt:83:48
 slice-aggregate-go-on-3 : tie.Need-slice-aggregate-go-on-3 Inv-loop μ-loop
 slice-aggregate-go-on-3 c = sym (c .before .before .before .before .before .before .before .before .before .loop .inv .1)
 
--- src/reading.rt:83:58
 slice-aggregate-go-on-4 : tie.Need-slice-aggregate-go-on-4 Inv-loop μ-loop
 slice-aggregate-go-on-4 c = sym (c .before .before .before .before .before .before .before .before .before .before .loop .inv .2)
 
--- src/reading.rt:83:70
 slice-aggregate-go-on-5 : tie.Need-slice-aggregate-go-on-5 Inv-loop μ-loop
 slice-aggregate-go-on-5 c = sym (c .before .before .before .before .before .before .before .before .before .before .before .loop .inv .3)
 
--- src/reading.rt:83:9
 go-on-requires : tie.Need-go-on-requires Inv-loop μ-loop
 go-on-requires c κs = search needs
 
--- src/reading.rt:86:34
 is-answered-requires : tie.Need-is-answered-requires Inv-loop μ-loop
 is-answered-requires c κs = search needs
 
--- src/reading.rt:86:13
 after-requires : tie.Need-after-requires Inv-loop μ-loop
 after-requires c κs = c .before .before .before .before .before .before .before .before .before .before .before .before .before .before .before .before .before .loop-test .taken
 
--- src/reading.rt:80:5
 loop-less : tie.Need-loop-less Inv-loop μ-loop
 loop-less c = fewer _ _ _ _ _ (c .before .before .before .before .before .before .before .before .before .before .before .before .before .before .before .before .before .before .loop-test .taken) (c .after .ensures)
 
--- src/reading.rt:80:5
 loop-again : tie.Need-loop-again Inv-loop μ-loop
 loop-again c =
     let l = c .before .before .before .before .before .before .before .before .before .before .before .before .before .before .before .before .before .before .before .loop in
@@ -135,40 +112,32 @@ loop-again c =
       going-next (runView (l .fed .run) (world (l .near) (l .far) (l .slots) (l .daily) (seen (l .fed .readings)) _)) _ (l .turns) (n .result) _ _ (f .ensures _ (l .inv .4)) (n .ensures .0 .1) (c .before .is-answered .ensures) (c .before .before .before .before .before .before .before .before .before .before .before .before .before .before .before .before .before .before .loop-test .taken) (l .end) _ _ (c .after .ensures) (l .inv .6),
     )
 
--- src/reading.rt:95:9
 slice-aggregate-finish : tie.Need-slice-aggregate-finish Inv-loop μ-loop
 slice-aggregate-finish c = sym (c .before .before .before .before .loop .inv .0)
 
--- src/reading.rt:96:9
 slice-aggregate-finish-2 : tie.Need-slice-aggregate-finish-2 Inv-loop μ-loop
 slice-aggregate-finish-2 c = sym (c .before .before .before .before .before .loop .inv .1)
 
--- src/reading.rt:97:9
 slice-aggregate-finish-3 : tie.Need-slice-aggregate-finish-3 Inv-loop μ-loop
 slice-aggregate-finish-3 c = sym (c .before .before .before .before .before .before .loop .inv .2)
 
--- src/reading.rt:98:9
 slice-aggregate-finish-4 : tie.Need-slice-aggregate-finish-4 Inv-loop μ-loop
 slice-aggregate-finish-4 c = sym (c .before .before .before .before .before .before .before .loop .inv .3)
 
--- src/reading.rt:99:9
 slice-aggregate-finish-5 : tie.Need-slice-aggregate-finish-5 Inv-loop μ-loop
 slice-aggregate-finish-5 c = sym (c .before .before .before .before .before .before .before .before .loop .inv .4)
 
--- src/reading.rt:92:9
 finish-requires : tie.Need-finish-requires Inv-loop μ-loop
 finish-requires c κs = search needs
 
--- src/reading.rt:101:5
 told-requires : tie.Need-told-requires Inv-loop μ-loop
 told-requires c κs = search needs
 
--- src/reading.rt:68:1
 returns : tie.Need-returns Inv-loop μ-loop
 returns c =
-    let l = c .before .before .before .before .before .before .before .before .before .before .before .before .before .before .before .loop in
+    let l = c .before .before .before .before .before .before .before .before .before .before .before .before .before .before .before .before .loop in
     let t = c .told .ensures in
-    rw (t .end) (hands-out _ (l .turns) (l .end) _ _ _ _ _ (omega (arith, c .before .before .before .before .before .before .before .before .before .before .before .before .before .before .loop-test .left)) (l .inv .6) (c .before .before .before .before .before .before .finish .ensures .1) (t .text))
+    rw (t .end) (hands-out _ (l .turns) (l .end) _ _ _ _ _ (omega (arith, c .before .before .before .before .before .before .before .before .before .before .before .before .before .before .before .loop-test .left)) (l .inv .6) (c .before .before .before .before .before .before .before .finish .ensures .1) (t .text))
 
 pub run-spec : {M : Type 1} → statement M
 run-spec =

@@ -2,7 +2,7 @@ use mathlib.Core.Path.{ap, _∙_}
 use mathlib.Core.List.{List}
 use Prim.Native.Nat.{ℕ}
 use Rattle.curves.specs.Availability.{validRow}
-use Rattle.points.specs.Sources.{bit}
+use Rattle.years.specs.Years.{bit}
 use borrow.Author.Needs.{needs}
 use Rattle.marks.proofs.validity.curve_mark.Statement.{statement}
 use Rattle.marks.proofs.validity.curve_mark.Tie as tie

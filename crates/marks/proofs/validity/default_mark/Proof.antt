@@ -1,6 +1,6 @@
 use mathlib.Core.Path.{ap, _∙_}
-use Rattle.points.specs.Cases.{caseOfCode}
-use Rattle.points.specs.Sources.{bit}
+use Rattle.cases.specs.Cases.{caseOfCode}
+use Rattle.years.specs.Years.{bit}
 use Rattle.marks.specs.Marks.{defaultMark}
 use Rattle.marks.proofs.Ten.{by-six}
 use borrow.Author.Needs.{needs}

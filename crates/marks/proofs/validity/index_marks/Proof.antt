@@ -1,5 +1,5 @@
 use Rattle.intervals.specs.Columns.{isSet}
-use Rattle.points.specs.Sources.{bit}
+use Rattle.years.specs.Years.{bit}
 use borrow.Author.Needs.{needs}
 use mathlib.Core.Path.{_≡_, ap, _∙_}
 use Prim.Native.Nat.{_-_, _≤_}

@@ -1,5 +1,5 @@
 use borrow.Author.Needs.{needs}
-use Rattle.points.specs.Sources.{bit}
+use Rattle.years.specs.Years.{bit}
 use Rattle.marks.proofs.validity.mark.Statement.{statement}
 use Rattle.marks.proofs.validity.mark.Tie as tie
 

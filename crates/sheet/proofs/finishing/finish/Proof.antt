@@ -1,13 +1,10 @@
 use mathlib.Core.Path.{_≡_, refl, ap, sym, _∙_}
-use mathlib.Core.Logic.{⊎-elim}
-use native.Mathlib.Omega.{arith}
 use borrow.Author.Tests.{not-true, not-false}
 use lib.ListN.{length, set}
 use Rattle.meaning.specs.Calls.{out}
 use Rattle.answers.specs.Views.{answerView}
 use Rattle.readings.specs.Readings.{seen}
 use Rattle.readings.specs.Columns.{world}
-use Rattle.readings.proofs.Laws.{put-past}
 use Rattle.ending.specs.Ends.{handed}
 use Rattle.site.specs.Views.{view}
 use Rattle.sheet.proofs.Ends.{ended-now, ended-last}
@@ -16,100 +13,76 @@ use Rattle.sheet.proofs.finishing.finish.Statement.{statement}
 use Rattle.sheet.proofs.finishing.finish.Tie as tie
 use Rattle.sheet.proofs.finishing.finish.Reads as reads
 use Rattle.sheet.proofs.finishing.finish.Lts as lts
-use Rattle.feed.proofs.step.Reads as step-reads
+use Rattle.steps.proofs.step.Reads as step-reads
+use Rattle.own_readings.proofs.stored.Reads as stored-reads
 use Rattle.sheet.proofs.finishing.has_last.Reads as has-last-reads
 use Rattle.sheet.proofs.finishing.shut_run.Reads as shut-run-reads
 
--- src/finishing.rt:91:9
 has-last-requires : tie.Need-has-last-requires
 has-last-requires c κs = search needs
 
--- src/finishing.rt:92:9
 shut-run-requires : tie.Need-shut-run-requires
 shut-run-requires c κs = search needs
 
--- src/finishing.rt:92:9
 same-length : tie.Need-same-length
 same-length c = search needs
 
--- src/finishing.rt:92:9
 same-length-2 : tie.Need-same-length-2
 same-length-2 c = search needs
 
--- src/finishing.rt:92:9
 same-length-3 : tie.Need-same-length-3
 same-length-3 c = search needs
 
--- src/finishing.rt:92:9
 same-length-4 : tie.Need-same-length-4
 same-length-4 c = search needs
 
--- src/finishing.rt:92:9
 same-length-5 : tie.Need-same-length-5
 same-length-5 c = search needs
 
--- src/finishing.rt:92:9
 returns : tie.Need-returns
 returns c =
     let a = c .before .before .before .before .before .before .before .before .before .before .before .before .before .before .before .args in
     let o = out (answerView (a .run .answer)) (view (a .run .«record»)) (world (a .near .now) (a .far .now) (a .slots .now) (a .daily .now) (seen (a .lent)) (a .curve .now)) in
     (a .lent, c .before .before .shut-run .ensures ∙ ap handed (ended-now o (a .run .line) (a .run .held) (sym (c .before .before .before .before .before .before .before .before .before .has-last .ensures) ∙ not-true _ (c .before .before .before .before .before .before .before .before .if1 .taken))))
 
--- src/finishing.rt:97:9
 array-share-prefix-line : tie.Need-array-share-prefix-line
 array-share-prefix-line c = search needs
 
--- src/finishing.rt:97:9
 slice-aggregate-step : tie.Need-slice-aggregate-step
 slice-aggregate-step c = search needs
 
--- src/finishing.rt:95:9
 step-requires : tie.Need-step-requires
 step-requires c κs = search needs
 
--- src/finishing.rt:110:9
-mul-readings : tie.Need-mul-readings
-mul-readings c = search needs
+stored-requires : tie.Need-stored-requires
+stored-requires c κs = search needs
 
--- src/finishing.rt:110:9
-array-set-from-readings : tie.Need-array-set-from-readings
-array-set-from-readings c = search needs
-
--- src/finishing.rt:112:5
 shut-run-requires-2 : tie.Need-shut-run-requires-2
 shut-run-requires-2 c κs = search needs
 
--- src/finishing.rt:80:1
 same-length-6 : tie.Need-same-length-6
 same-length-6 c = search needs
 
--- src/finishing.rt:80:1
 same-length-7 : tie.Need-same-length-7
 same-length-7 c = search needs
 
--- src/finishing.rt:80:1
 same-length-8 : tie.Need-same-length-8
 same-length-8 c = search needs
 
--- src/finishing.rt:80:1
 same-length-9 : tie.Need-same-length-9
 same-length-9 c = search needs
 
--- src/finishing.rt:80:1
 same-length-10 : tie.Need-same-length-10
 same-length-10 c = search needs
 
--- src/finishing.rt:80:1
 returns-2 : tie.Need-returns-2
 returns-2 c =
-    let a = c .before .before .before .before .before .before .before .before .before .before .before .before .before .before .before .before .before .before .before .before .before .before .before .before .before .before .before .before .before .before .before .before .args in
+    let a = c .before .before .before .before .before .before .before .before .before .before .before .before .before .before .before .before .before .before .before .before .before .before .before .before .before .before .before .before .before .before .before .before .before .args in
     let o = out (answerView (a .run .answer)) (view (a .run .«record»)) (world (a .near .now) (a .far .now) (a .slots .now) (a .daily .now) (seen (a .lent)) (a .curve .now)) in
-    let s = c .before .before .before .before .before .before .before .before .before .before .before .before .before .before .before .before .before .before .step in
-    let j = c .before .before .before .before .before .before .before .before .if2 in
-    let line : length (a .run .line) ≡ 321 = (let g = c .before .before .before .before .before .before .before .before .before .before .before .before .before .before .before .before .before .before .before .before .before .before .before .before .before .before .before .before .before .before .before .before .good .0 in search needs) in
-    let long : length (a .lent) ≡ 600 = (let g = c .before .before .before .before .before .before .before .before .before .before .before .before .before .before .before .before .before .before .before .before .before .before .before .before .before .before .before .before .before .before .before .before .good in search needs) in
-    let put : j .readings ≡ set (a .lent) (s .result .slot) (s .result .reading) = ⊎-elim (λ w. w .2) (λ w. w .1 ∙ put-past (a .lent) (s .result .slot) (s .result .reading) (omega (arith, w .0 .left))) (j .came) in
-    (set (a .lent) (s .result .slot) (s .result .reading), (rw put at (c .before .before .shut-run2 .ensures)) ∙ ap handed (ended-last o (a .run .line) (a .run .held) _ line (sym (c .before .before .before .before .before .before .before .before .before .before .before .before .before .before .before .before .before .before .before .before .before .before .before .before .before .before .has-last .ensures) ∙ not-false _ (c .before .before .before .before .before .before .before .before .before .before .before .before .before .before .before .before .before .before .before .before .before .before .before .before .before .if1 .left)) (s .ensures (a .lent) (a .curve .now) long refl)))
+    let s = c .before .before .before .before .before .before .before .before .before .before .before .before .before .before .before .before .before .before .before .step in
+    let line : length (a .run .line) ≡ 321 = (let g = c .before .before .before .before .before .before .before .before .before .before .before .before .before .before .before .before .before .before .before .before .before .before .before .before .before .before .before .before .before .before .before .before .before .good .0 in search needs) in
+    let long : length (a .lent) ≡ 600 = (let g = c .before .before .before .before .before .before .before .before .before .before .before .before .before .before .before .before .before .before .before .before .before .before .before .before .before .before .before .before .before .before .before .before .before .good in search needs) in
+    (set (a .lent) (s .result .slot) (s .result .reading), (rw (c .before .before .before .before .before .before .before .before .stored .ensures) at (c .before .before .shut-run2 .ensures)) ∙ ap handed (ended-last o (a .run .line) (a .run .held) _ line (sym (c .before .before .before .before .before .before .before .before .before .before .before .before .before .before .before .before .before .before .before .before .before .before .before .before .before .before .before .has-last .ensures) ∙ not-false _ (c .before .before .before .before .before .before .before .before .before .before .before .before .before .before .before .before .before .before .before .before .before .before .before .before .before .before .if1 .left)) (s .ensures (a .lent) (a .curve .now) long refl)))
 
 pub finish-spec : {M : Type 1} → statement M
 finish-spec =
@@ -126,8 +99,7 @@ finish-spec =
     array-share-prefix-line
     slice-aggregate-step
     step-requires
-    mul-readings
-    array-set-from-readings
+    stored-requires
     shut-run-requires-2
     same-length-6
     same-length-7

@@ -6,11 +6,11 @@ use Rattle.sheet.proofs.finishing.has_last.Tie as tie
 is-answered-requires : tie.Need-is-answered-requires
 is-answered-requires c κs = search needs
 
-returns : tie.Need-returns
-returns c = rw (sym (c .before .is-answered .ensures) ∙ c .if1 .taken)
+is-begun-requires : tie.Need-is-begun-requires
+is-begun-requires c κs = search needs
 
-returns-2 : tie.Need-returns-2
-returns-2 c = rw (sym (c .before .before .is-answered .ensures) ∙ c .before .if1 .left)
+returns : tie.Need-returns
+returns c = rw (← c .before .is-answered .ensures) (c .is-begun .ensures)
 
 pub has-last-spec : {M : Type 1} → statement M
-has-last-spec = tie.close (tie.spec is-answered-requires returns returns-2)
+has-last-spec = tie.close (tie.spec is-answered-requires is-begun-requires returns)

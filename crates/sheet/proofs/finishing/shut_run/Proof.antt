@@ -14,43 +14,35 @@ use Rattle.sheet.proofs.finishing.shut_run.Tie as tie
 use Rattle.sheet.proofs.finishing.shut_run.Reads as reads
 use Rattle.sheet.proofs.finishing.shut_run.Lts as lts
 use Rattle.ending.proofs.close_blocks.Reads as close-blocks-reads
-use Rattle.feed.proofs.is_answered.Reads as is-answered-reads
+use Rattle.steps.proofs.is_answered.Reads as is-answered-reads
 use Rattle.readings.proofs.columns_in.Reads as columns-in-reads
 use Rattle.sheet.proofs.finishing.unclosed.Reads as unclosed-reads
 use Rattle.site.proofs.close_answer.Reads as close-answer-reads
 
--- src/finishing.rt:58:8
 is-answered-requires : tie.Need-is-answered-requires
 is-answered-requires c κs = search needs
 
--- src/finishing.rt:59:9
 unclosed-requires : tie.Need-unclosed-requires
 unclosed-requires c κs = search needs
 
--- src/finishing.rt:59:9
 returns : tie.Need-returns
 returns c =
     let a = c .before .before .before .before .before .before .before .before .before .args in
     let w = world (a .near .now) (a .far .now) (a .slots .now) (a .daily .now) (seen (a .readings)) (a .curve .now) in
     ap (λ (r : Closed). closesBack r w) (c .unclosed .ensures) ∙ back-answered (a .run .answer) (view (a .run .«record»)) w (sym (c .before .before .is-answered .ensures) ∙ c .before .if1 .taken)
 
--- src/finishing.rt:70:9
 columns-in-requires : tie.Need-columns-in-requires
 columns-in-requires c κs = search needs
 
--- src/finishing.rt:62:9
 close-blocks-requires : tie.Need-close-blocks-requires
 close-blocks-requires c κs = search needs
 
--- src/finishing.rt:74:5
 close-answer-requires : tie.Need-close-answer-requires
 close-answer-requires c κs = search needs
 
--- src/finishing.rt:45:1
 same-length : tie.Need-same-length
 same-length c = search needs
 
--- src/finishing.rt:45:1
 returns-2 : tie.Need-returns-2
 returns-2 c =
     let a = c .before .before .before .before .before .before .before .before .before .before .before .before .before .before .before .args in

@@ -1,0 +1,121 @@
+// The case of each history year, the first that fits (document 01, Cases).
+ghost use mathlib.Core.Path.{_≡_};
+ghost use Prim.Native.Nat.{_≤_};
+ghost use Rattle.meaning.specs.Cases.{mark};
+ghost use Rattle.cases.specs.Cases.{codeOfCase, caseOfCode, caseWith, someSet, caseCodes};
+
+// Measured; profiled (T1, P); rebuilt from curves (T2) or from profiled years (T3, I5); default power (T4, I6).
+pub enum Case {
+    M,
+    T1,
+    T2,
+    T3,
+    T4,
+    P,
+    I5,
+    I6,
+}
+
+// The case of a year by the meter, whether some year's curve and some year's index are valid, and the year's own marks.
+pub fn case_of(
+    curve_meter: bool,
+    some_curve: bool,
+    some_index: bool,
+    curve: bool,
+    index: bool,
+) -> Case
+    ensures { λ r. ⌜ r ≡ caseWith «curve_meter» «some_curve» «some_index» (mark curve index) ⌝ }
+{
+    if curve_meter {
+        if curve {
+            return Case::M;
+        }
+        if index {
+            return Case::T1;
+        }
+        if some_curve {
+            return Case::T2;
+        }
+        if some_index {
+            return Case::T3;
+        }
+        return Case::T4;
+    }
+    if index {
+        return Case::P;
+    }
+    if some_index {
+        return Case::I5;
+    }
+    Case::I6
+}
+
+// The number that a case is kept as.
+pub fn code_of(case: Case) -> u64
+    ensures { λ r. ⌜ r ≡ codeOfCase case ⌝ }
+{
+    match case {
+        Case::M => 0,
+        Case::T1 => 1,
+        Case::T2 => 2,
+        Case::T3 => 3,
+        Case::T4 => 4,
+        Case::I5 => 5,
+        Case::I6 => 6,
+        Case::P => 7,
+    }
+}
+
+// The case of a number.
+pub fn case_at(code: u64) -> Case
+    ensures { λ r. ⌜ r ≡ caseOfCode code ⌝ }
+{
+    match code {
+        0 => Case::M,
+        1 => Case::T1,
+        2 => Case::T2,
+        3 => Case::T3,
+        4 => Case::T4,
+        5 => Case::I5,
+        6 => Case::I6,
+        _ => Case::P,
+    }
+}
+
+// Whether one of the first n marks is set.
+fn some_set(marks: &[u64; 10], n: usize) -> bool
+    requires { ⌜ n ≤ 10 ⌝ }
+    ensures { λ r. ⌜ r ≡ someSet n (now (marks .entry)) ⌝ }
+{
+    let mut k = 0;
+    while k < n {
+        if marks[k] != 0 {
+            return true;
+        }
+        k += 1;
+    }
+    false
+}
+
+// The codes of the n history years' cases, 0 for the rest.
+pub fn cases_of(curve_meter: bool, n: usize, curves: &[u64; 10], indexes: &[u64; 10]) -> [u64; 10]
+    requires { ⌜ n ≤ 10 ⌝ }
+    ensures { λ r. ⌜ r ≡ caseCodes «curve_meter» n (now (curves .entry)) (now (indexes .entry)) ⌝ }
+{
+    let some_curve = some_set(curves, n);
+    let some_index = some_set(indexes, n);
+    let mut codes = [0u64; 10];
+    let mut k = 0;
+    while k < n {
+        let case = case_of(
+            curve_meter,
+            some_curve,
+            some_index,
+            curves[k] != 0,
+            indexes[k] != 0,
+        );
+        codes[k] = code_of(case);
+        k += 1;
+    }
+    codes
+}

@@ -1,4 +1,0 @@
-pub mod Judged
-pub mod OnAxis
-pub mod InWinter
-pub mod Told

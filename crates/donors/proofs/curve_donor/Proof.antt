@@ -1,0 +1,36 @@
+use mathlib.Core.Path.{_≡_, sym}
+use Rattle.meaning.specs.Blocks.{slotAt, pointOfCode}
+use Rattle.meaning.specs.Points.{ownOf, readBy}
+use Rattle.own_points.specs.Fits.{isPoint}
+use Rattle.own_points.specs.Given.{codeIn, readIn}
+use Rattle.donors.proofs.Given.{not-given, is-given}
+use borrow.Author.Needs.{needs}
+use Rattle.donors.proofs.curve_donor.Statement.{statement}
+use Rattle.donors.proofs.curve_donor.Tie as tie
+use Rattle.donors.proofs.curve_donor.Reads as reads
+use Rattle.donors.proofs.curve_donor.Lts as lts
+use Rattle.own_points.proofs.code.Reads as code-reads
+use Rattle.own_points.proofs.measured.Reads as measured-reads
+
+returns : tie.Need-returns
+returns c = let a = c .before .before .before .args in not-given (a .valid) (readIn (a .al) (a .near .now) (a .far .now) (a .year) (a .w) (a .h)) (c .if1 .taken)
+
+code-requires : tie.Need-code-requires
+code-requires c κs = search needs
+
+measured-requires : tie.Need-measured-requires
+unfolding codeIn
+measured-requires c κs =
+    let s = c .before .before .before .before in
+    rw (c .code .ensures) (s .pre .0 (s .args .year) (slotAt (s .args .w) (s .args .h)))
+
+returns-2 : tie.Need-returns-2
+unfolding readIn
+returns-2 c =
+    let s = c .before .before .before .before .before in
+    let a = s .args in
+    is-given (a .valid) (readIn (a .al) (a .near .now) (a .far .now) (a .year) (a .w) (a .h)) (c .measured .result) (c .before .before .if1 .left)
+    (rw (c .before .code .ensures) at (c .measured .ensures))
+
+pub curve-donor-spec : {M : Type 1} → statement M
+curve-donor-spec = tie.close (tie.spec returns code-requires measured-requires returns-2)

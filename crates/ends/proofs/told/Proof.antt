@@ -1,0 +1,49 @@
+use mathlib.Core.Path.{_≡_, refl}
+use Rattle.shown.specs.Shown.{Holds}
+use Rattle.ends.specs.Ends.{textTold, Tells}
+use borrow.Author.Needs.{needs}
+use Rattle.ends.proofs.told.Statement.{statement}
+use Rattle.ends.proofs.told.Tie as tie
+use Rattle.ends.proofs.told.Reads as reads
+use Rattle.ends.proofs.told.Lts as lts
+use Rattle.shown.proofs.text.Reads as text-reads
+
+enum-told : tie.Need-enum-told
+enum-told c = search needs
+
+enum-told-2 : tie.Need-enum-told-2
+enum-told-2 c = search needs
+
+text-requires : tie.Need-text-requires
+text-requires c κs = search needs
+
+enum-told-3 : tie.Need-enum-told-3
+enum-told-3 c = search needs
+
+text-requires-2 : tie.Need-text-requires-2
+text-requires-2 c κs = search needs
+
+returns : tie.Need-returns
+unfolding textTold
+returns c = rw (c .enum-told .given .1) (record { end = refl; text = record { length = refl; bytes = refl } })
+
+returns-2 : tie.Need-returns-2
+unfolding textTold
+returns-2 c = rw (c .before .enum-told2 .given .1) (record { end = refl; text = c .text .ensures })
+
+returns-3 : tie.Need-returns-3
+unfolding textTold
+returns-3 c = rw (c .before .enum-told3 .given .1) (record { end = refl; text = c .text2 .ensures })
+
+pub told-spec : {M : Type 1} → statement M
+told-spec =
+    tie.close
+    (tie.spec
+    enum-told
+    enum-told-2
+    text-requires
+    enum-told-3
+    text-requires-2
+    returns
+    returns-2
+    returns-3)

@@ -1,0 +1,225 @@
+use mathlib.Core.Path.{_≡_, refl, ap, sym, subst, _∙_}
+use mathlib.Core.Logic.{_⊎_, ⊎-elim}
+use Prim.Native.Nat.{ℕ, _+_, _≤_, _<_}
+use native.Mathlib.Omega.{arith}
+use denote.Enum.Declared.{tagOf}
+use lib.ListN.{getD}
+use Rattle.meaning.specs.Points.{Source, own, rebuiltBy}
+use Rattle.meaning.specs.Blocks.{slotAt}
+use Rattle.cases.specs.declared.Case.{Case}
+use Rattle.cases.proofs.Case.{the-type}
+use Rattle.cases.specs.declared.Case.the-variants.{M, T1, T2, T3, T4, P, I5, I6}
+use Rattle.own_points.specs.declared.Basis.{Basis}
+use Rattle.cases.specs.Cases.{meantCase}
+use Rattle.own_points.specs.Given.{codeIn, readIn, profiledOn}
+use Rattle.donors.specs.Given.{curveGiven, indexGiven}
+use Rattle.points.specs.Sources.{Day, day, curveDonorsIn, indexDonorsIn, defaultIn, sourceIn}
+use Rattle.own_points.specs.Fits.{isPoint, FilledIs}
+use Rattle.donors.proofs.Gathered.{fit-more, rebuilt-filled}
+use borrow.Author.Needs.{needs}
+use Rattle.points.proofs.filled.Statement.{statement}
+use Rattle.points.proofs.filled.Tie as tie
+use Rattle.points.proofs.filled.Reads as reads
+use Rattle.points.proofs.filled.Lts as lts
+use Rattle.own_points.proofs.by_default.Reads as by-default-reads
+use Rattle.own_points.proofs.code.Reads as code-reads
+use Rattle.own_points.proofs.measured.Reads as measured-reads
+use Rattle.own_points.proofs.profile.Reads as profile-reads
+use Rattle.own_points.proofs.profiled.Reads as profiled-reads
+use Rattle.donors.proofs.from_curves.Reads as from-curves-reads
+use Rattle.donors.proofs.from_indexes.Reads as from-indexes-reads
+use Rattle.donors.proofs.rebuilt.Reads as rebuilt-reads
+
+-- ---- the cases that share a way, by the number of their variant
+no-case : {A : Type 0} {a b : ℕ} → (a ≡ b → ⊥) → {m n : ℕ} → (m ≡ n → ⊥) → (a ≡ b) ⊎ (m ≡ n) → A
+no-case f g e = absurd (⊎-elim f g e)
+
+profiled-source : (b : Basis) (d : Day) (x : Case) (k w h : ℕ) → (tagOf the-type x ≡ 1) ⊎ (tagOf the-type x ≡ 5)
+    → own (profiledOn (d .slots) (d .energies) (d .totals) k w h) ≡ sourceIn b d (meantCase x) k w h
+unfolding sourceIn
+profiled-source b d M k w h e = no-case (λ z. omega arith) (λ z. omega arith) e
+profiled-source b d T1 k w h e = refl
+profiled-source b d T2 k w h e = no-case (λ z. omega arith) (λ z. omega arith) e
+profiled-source b d T3 k w h e = no-case (λ z. omega arith) (λ z. omega arith) e
+profiled-source b d T4 k w h e = no-case (λ z. omega arith) (λ z. omega arith) e
+profiled-source b d P k w h e = refl
+profiled-source b d I5 k w h e = no-case (λ z. omega arith) (λ z. omega arith) e
+profiled-source b d I6 k w h e = no-case (λ z. omega arith) (λ z. omega arith) e
+
+index-source : (b : Basis) (d : Day) (x : Case) (k w h : ℕ) → (tagOf the-type x ≡ 3) ⊎ (tagOf the-type x ≡ 6)
+    → rebuiltBy (getD (d .cas) k 0) (indexDonorsIn b d w h) ≡ sourceIn b d (meantCase x) k w h
+unfolding sourceIn
+index-source b d M k w h e = no-case (λ z. omega arith) (λ z. omega arith) e
+index-source b d T1 k w h e = no-case (λ z. omega arith) (λ z. omega arith) e
+index-source b d T2 k w h e = no-case (λ z. omega arith) (λ z. omega arith) e
+index-source b d T3 k w h e = refl
+index-source b d T4 k w h e = no-case (λ z. omega arith) (λ z. omega arith) e
+index-source b d P k w h e = no-case (λ z. omega arith) (λ z. omega arith) e
+index-source b d I5 k w h e = refl
+index-source b d I6 k w h e = no-case (λ z. omega arith) (λ z. omega arith) e
+
+default-source : (b : Basis) (d : Day) (x : Case) (k w h : ℕ) → (tagOf the-type x ≡ 4) ⊎ (tagOf the-type x ≡ 7)
+    → defaultIn b d k w h ≡ sourceIn b d (meantCase x) k w h
+unfolding sourceIn
+default-source b d M k w h e = no-case (λ z. omega arith) (λ z. omega arith) e
+default-source b d T1 k w h e = no-case (λ z. omega arith) (λ z. omega arith) e
+default-source b d T2 k w h e = no-case (λ z. omega arith) (λ z. omega arith) e
+default-source b d T3 k w h e = no-case (λ z. omega arith) (λ z. omega arith) e
+default-source b d T4 k w h e = refl
+default-source b d P k w h e = no-case (λ z. omega arith) (λ z. omega arith) e
+default-source b d I5 k w h e = no-case (λ z. omega arith) (λ z. omega arith) e
+default-source b d I6 k w h e = refl
+
+enum-told : tie.Need-enum-told
+enum-told c = search needs
+
+add-code : tie.Need-add-code
+add-code c = search needs
+
+code-requires : tie.Need-code-requires
+code-requires c κs = search needs
+
+measured-requires : tie.Need-measured-requires
+unfolding codeIn
+measured-requires c κs =
+    let s = c .before .before .before .before .before .before .before in
+    rw (c .code .ensures) (s .pre .0 .1 .points (s .args .b .first + s .args .y .k) (slotAt (s .args .w) (s .args .h)))
+
+mul-profiled : tie.Need-mul-profiled
+mul-profiled c = search needs
+
+element-copy-out-profiled : tie.Need-element-copy-out-profiled
+element-copy-out-profiled c = search needs
+
+profile-requires : tie.Need-profile-requires
+profile-requires c κs = search needs
+
+mul-profiled-2 : tie.Need-mul-profiled-2
+mul-profiled-2 c = search needs
+
+element-copy-out-profiled-2 : tie.Need-element-copy-out-profiled-2
+element-copy-out-profiled-2 c = search needs
+
+profiled-requires : tie.Need-profiled-requires
+profiled-requires c κs =
+    let s = c .before .before .before .before .before .before .before in
+    (s .pre .0 .1 .energies (s .args .y .k), c .before .profile .ensures .fits, s .pre .0 .1 .totals (s .args .y .k))
+
+enum-told-2 : tie.Need-enum-told-2
+enum-told-2 c = search needs
+
+mul-rebuilt : tie.Need-mul-rebuilt
+mul-rebuilt c = search needs
+
+element-copy-out-rebuilt : tie.Need-element-copy-out-rebuilt
+element-copy-out-rebuilt c = search needs
+
+from-curves-requires : tie.Need-from-curves-requires
+from-curves-requires c κs = search needs
+
+rebuilt-requires : tie.Need-rebuilt-requires
+rebuilt-requires c κs =
+    let s = c .before .before .before .before .before .before .before in
+    (s .pre .0 .1 .cas .most (s .args .y .k), fit-more (s .args .b .count) 10 (c .from-curves .result) (s .pre .0 .0 .count) (c .from-curves .ensures .fit))
+
+mul-rebuilt-2 : tie.Need-mul-rebuilt-2
+mul-rebuilt-2 c = search needs
+
+element-copy-out-rebuilt-2 : tie.Need-element-copy-out-rebuilt-2
+element-copy-out-rebuilt-2 c = search needs
+
+from-indexes-requires : tie.Need-from-indexes-requires
+from-indexes-requires c κs = search needs
+
+rebuilt-requires-2 : tie.Need-rebuilt-requires-2
+rebuilt-requires-2 c κs =
+    let s = c .before .before .before .before .before .before in
+    (s .pre .0 .1 .cas .most (s .args .y .k), fit-more (s .args .b .count) 10 (c .from-indexes .result) (s .pre .0 .0 .count) (c .from-indexes .ensures .fit))
+
+profile-requires-2 : tie.Need-profile-requires-2
+profile-requires-2 c κs = search needs
+
+mul-by-default : tie.Need-mul-by-default
+mul-by-default c = search needs
+
+element-copy-out-by-default : tie.Need-element-copy-out-by-default
+element-copy-out-by-default c = search needs
+
+by-default-requires : tie.Need-by-default-requires
+by-default-requires c κs =
+    let s = c .before .before .before .before .before .before in
+    (s .pre .0 .0, c .before .profile2 .ensures .fits, s .pre .0 .1 .cas .most (s .args .y .k))
+
+returns : tie.Need-returns
+unfolding sourceIn readIn
+returns c = rw (c .before .before .before .enum-told .given .1) (rw (c .before .code .ensures) at (c .measured .ensures))
+
+returns-2 : tie.Need-returns-2
+unfolding profiledOn
+returns-2 c =
+    let s = c .before .before .before .before .before .before .before .before in
+    let a = s .args in
+    subst (λ (x : Source). FilledIs x (c .profiled .result))
+    (profiled-source (a .b) (day (a .near .now) (a .far .now) (a .slots .now) (a .energies .now) (a .totals .now) (a .givers .now) (a .curves .now) (a .cas .now)) (a .y .case) (a .y .k) (a .w) (a .h) (c .before .before .before .before .match .keys2))
+    (rw (c .before .before .profile .ensures .is) at (c .profiled .ensures))
+
+returns-3 : tie.Need-returns-3
+unfolding sourceIn curveDonorsIn
+returns-3 c =
+    let s = c .before .before .before .before .before .before .before .before in
+    let a = s .args in
+    rw (c .before .before .before .enum-told2 .given .1)
+    (rebuilt-filled (a .b .count) (getD (a .cas .now) (a .y .k) 0) (a .cas .now) (curveGiven (a .b .al) (a .b .first) (a .near .now) (a .far .now) (a .curves .now) (a .w) (a .h))
+    (c .before .from-curves .result) (c .rebuilt .result) (s .pre .0 .1 .cas) (c .before .from-curves .ensures) (c .rebuilt .ensures))
+
+returns-4 : tie.Need-returns-4
+unfolding indexDonorsIn
+returns-4 c =
+    let s = c .before .before .before .before .before .before .before in
+    let a = s .args in
+    subst (λ (x : Source). FilledIs x (c .rebuilt2 .result))
+    (index-source (a .b) (day (a .near .now) (a .far .now) (a .slots .now) (a .energies .now) (a .totals .now) (a .givers .now) (a .curves .now) (a .cas .now)) (a .y .case) (a .y .k) (a .w) (a .h) (c .before .before .before .match .keys4))
+    (rebuilt-filled (a .b .count) (getD (a .cas .now) (a .y .k) 0) (a .cas .now) (indexGiven (a .slots .now) (a .energies .now) (a .totals .now) (a .givers .now) (a .w) (a .h))
+    (c .before .from-indexes .result) (c .rebuilt2 .result) (s .pre .0 .1 .cas) (c .before .from-indexes .ensures) (c .rebuilt2 .ensures))
+
+returns-5 : tie.Need-returns-5
+unfolding defaultIn
+returns-5 c =
+    let s = c .before .before .before .before .before .before .before in
+    let a = s .args in
+    subst (λ (x : Source). FilledIs x (c .by-default .result))
+    (default-source (a .b) (day (a .near .now) (a .far .now) (a .slots .now) (a .energies .now) (a .totals .now) (a .givers .now) (a .curves .now) (a .cas .now)) (a .y .case) (a .y .k) (a .w) (a .h) (c .before .before .before .match .keys5))
+    (rw (c .before .before .profile2 .ensures .is) at (c .by-default .ensures))
+
+pub filled-spec : {M : Type 1} → statement M
+filled-spec =
+    tie.close
+    (tie.spec
+    enum-told
+    add-code
+    code-requires
+    measured-requires
+    mul-profiled
+    element-copy-out-profiled
+    profile-requires
+    mul-profiled-2
+    element-copy-out-profiled-2
+    profiled-requires
+    enum-told-2
+    mul-rebuilt
+    element-copy-out-rebuilt
+    from-curves-requires
+    rebuilt-requires
+    mul-rebuilt-2
+    element-copy-out-rebuilt-2
+    from-indexes-requires
+    rebuilt-requires-2
+    profile-requires-2
+    mul-by-default
+    element-copy-out-by-default
+    by-default-requires
+    returns
+    returns-2
+    returns-3
+    returns-4
+    returns-5)
