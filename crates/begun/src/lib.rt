@@ -1,11 +1,20 @@
 // The line begun: where it ends in a piece, and its bytes, which are held from piece to piece.
 ghost use mathlib.Core.Path.{_≡_};
-ghost use mathlib.Core.Bool.{_&&_, cond, not};
-ghost use Prim.Native.Nat.{_+_, _-_, _≤_, min};
-ghost use lib.Dec.{eqb, ltb};
-ghost use lib.ListN.{length, take};
+ghost use mathlib.Core.Bool.{_&&_, _||_, not};
+ghost use Prim.Native.Nat.{_-_, min};
+ghost use lib.Dec.{ltb};
 ghost use Rattle.digits.specs.Written.{written};
 ghost use Rattle.pieces.specs.Parts.{endAt};
+ghost use Rattle.begun.specs.Joined.{joinedOf};
+
+pub struct Joined {
+    pub line: [u8; 321],
+    // how many bytes the line has, and how many of the piece it takes, its byte 10 included
+    pub bytes: usize,
+    pub used: usize,
+    // whether it is to be given
+    pub whole: bool,
+}
 
 // A line is refused at its 321st byte, so no more are held.
 const ROOM: usize = 321;
@@ -31,7 +40,7 @@ pub fn least(a: usize, b: usize) -> usize
 }
 
 // How many of the bytes left a line can take that has some already.
-pub fn room(held: usize, left: usize) -> usize
+fn room(held: usize, left: usize) -> usize
     ensures { λ r. ⌜ r ≡ min (321 - held) left ⌝ }
 {
     if ROOM < held {
@@ -48,26 +57,32 @@ pub fn appended(mut line: [u8; 321], held: usize, part: &[u8]) -> [u8; 321]
     line
 }
 
-// The same, but that a line whose bytes lie all in its part is not copied.
-pub fn completed(line: [u8; 321], held: usize, part: &[u8]) -> [u8; 321]
-    ensures { λ r. ⌜ r ≡ cond (eqb held 0) line (written line held (now (part .entry))) ⌝ }
+// A line that has its byte 10 or its 321st byte is whole.
+pub fn is_whole(ended: bool, bytes: usize) -> bool
+    ensures { λ r. ⌜ r ≡ (ended || ltb 320 bytes) ⌝ }
 {
-    if held == 0 {
-        return line;
+    if ended {
+        return true;
     }
-    appended(line, held, part)
+    ROOM <= bytes
 }
 
-// The whole line: its part itself where no other byte was held.
-pub fn whole<'a>(line: &'a [u8], held: usize, part: &'a [u8]) -> &'a [u8]
-    requires { ⌜ held + length (now part) ≤ length (now line) ⌝ }
-    ensures { λ r. ⌜ now r ≡ cond (eqb held 0) (now (part .entry)) (take (held + length (now (part .entry))) (now (line .entry))) ⌝ }
+// The line begun, with the bytes after it that a piece has of it.
+pub fn join(line: [u8; 321], held: usize, piece: &[u8]) -> Joined
+    ensures { λ r. ⌜ r ≡ joinedOf line held (now (piece .entry)) ⌝ }
 {
-    if held == 0 {
-        return part;
+    let k = least(held, 320);
+    let limit = room(k, piece.len());
+    let e = end(&piece[..limit]);
+    let more = appended(line, k, &piece[..e]);
+    let bytes = k + e;
+    let used = least(e + 1, limit);
+    Joined {
+        line: more,
+        bytes,
+        used,
+        whole: is_whole(e < limit, bytes),
     }
-    let e = held + part.len();
-    &line[..e]
 }
 
 // Whether a run that ends has a last line to give, one that lacks its byte 10.

@@ -1,1 +1,1 @@
-pub mod Curves
+pub mod Views

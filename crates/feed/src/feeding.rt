@@ -1,53 +1,110 @@
 // A piece of the input, of any size.
-use crate::Fed;
-use begun::end;
-use begun::least;
-use begun::room;
+use crate::lines::feed_lines;
+use begun::join;
+use own_readings::line_own;
 use readings::Reading;
-use steps::Run;
-use steps::is_answered;
-use steps::step;
+use runs::Fed;
+use runs::Run;
+use runs::opened_of;
+use turns::is_answered;
 ghost use mathlib.Core.Path.{_≡_};
-ghost use Rattle.pieces.specs.Run.{fed};
+ghost use mathlib.Core.Bool.{false};
+ghost use Rattle.answers.specs.Views.{answerView};
+ghost use Rattle.pieces.specs.Run.{isAnswered, fed};
 ghost use Rattle.readings.specs.Readings.{seen};
 ghost use Rattle.readings.specs.Columns.{world};
-ghost use Rattle.steps.specs.Views.{runView};
-ghost use Rattle.feed.specs.Curves.{EachCurve};
+ghost use Rattle.runs.specs.Views.{runView};
+ghost use Rattle.feed.specs.Views.{fedOn};
 
-const CURVE: usize = 4400;
+// More bytes are held, and no line is given.
+fn fed_on(run: Run, readings: [Reading; 600], line: [u8; 321], bytes: usize) -> Fed
+    ensures { λ r. ⌜ r ≡ fedOn run readings line bytes ⌝ }
+{
+    let record = run.record;
+    let answer = run.answer;
+    Fed {
+        run: Run {
+            record,
+            answer,
+            line,
+            held: bytes,
+        },
+        readings,
+    }
+}
 
-// A run that has its answer stays as it is.
-pub fn feed(
-    start: Run,
+// The line begun is given, and then those after it; or it goes on.
+fn carry(
+    run: Run,
     lent: [Reading; 600],
     piece: &[u8],
     near: &mut [u32],
     far: &mut [u32],
     slots: &mut [u16],
     daily: &mut [u32],
+    curve: &[u64],
 ) -> Fed
-    ensures { λ r. ⌜ EachCurve (λ c. runView (r .run) (world (now (near .exit)) (now (far .exit)) (now (slots .exit)) (now (daily .exit)) (seen (r .readings)) c) ≡ fed (runView start (world (now (near .entry)) (now (far .entry)) (now (slots .entry)) (now (daily .entry)) (seen lent) c)) (now (piece .entry))) ⌝ }
+    requires { ⌜ isAnswered (answerView (run .answer)) ≡ false ⌝ }
+    ensures { λ r. ⌜ runView (r .run) (world (now (near .exit)) (now (far .exit)) (now (slots .exit)) (now (daily .exit)) (seen (r .readings)) (now (curve .entry))) ≡ fed (runView run (world (now (near .entry)) (now (far .entry)) (now (slots .entry)) (now (daily .entry)) (seen lent) (now (curve .entry)))) (now (piece .entry)) ⌝ }
 {
-    let mut run = start;
-    let mut readings = lent;
-    let mut t = piece;
-    while 0 < t.len() {
-        let answer = run.answer;
-        if is_answered(answer) {
-            return Fed { run, readings };
-        }
-        let held = least(run.held, 320);
-        let limit = room(held, t.len());
-        let e = end(&t[..limit]);
-        let s = step(run, &t[..e], e < limit, near, far, slots, daily, CURVE);
-        let slot = s.slot;
-        run = s.run;
-        if slot < 600 {
-            let reading = s.reading;
-            readings[slot] = reading;
-        }
-        let used = least(e + 1, limit);
-        t = &t[used..];
+    let begun = run.line;
+    let joined = join(begun, run.held, piece);
+    let line = joined.line;
+    let bytes = joined.bytes;
+    if !joined.whole {
+        return fed_on(run, lent, line, bytes);
     }
-    Fed { run, readings }
+    let record = run.record;
+    let kept = line_own(record, &line[..bytes], near, far, slots, daily, lent, curve);
+    let used = joined.used;
+    let opened = kept.opened;
+    let readings = kept.readings;
+    feed_lines(
+        opened,
+        readings,
+        line,
+        &piece[used..],
+        near,
+        far,
+        slots,
+        daily,
+        curve,
+    )
+}
+
+// A run that has its answer stays as it is.
+pub fn feed(
+    run: Run,
+    lent: [Reading; 600],
+    piece: &[u8],
+    near: &mut [u32],
+    far: &mut [u32],
+    slots: &mut [u16],
+    daily: &mut [u32],
+    curve: &[u64],
+) -> Fed
+    ensures { λ r. ⌜ runView (r .run) (world (now (near .exit)) (now (far .exit)) (now (slots .exit)) (now (daily .exit)) (seen (r .readings)) (now (curve .entry))) ≡ fed (runView run (world (now (near .entry)) (now (far .entry)) (now (slots .entry)) (now (daily .entry)) (seen lent) (now (curve .entry)))) (now (piece .entry)) ⌝ }
+{
+    let answer = run.answer;
+    if is_answered(answer) {
+        return Fed {
+            run,
+            readings: lent,
+        };
+    }
+    if 0 < run.held {
+        return carry(run, lent, piece, near, far, slots, daily, curve);
+    }
+    let line = run.line;
+    feed_lines(
+        opened_of(run),
+        lent,
+        line,
+        piece,
+        near,
+        far,
+        slots,
+        daily,
+        curve,
+    )
 }

@@ -1,16 +1,8 @@
-// A run over input that comes in pieces of any size.
+// A piece of a run's input, of any size.
 //
-// What start and feed promise is one equation with the run of the definitions: answer, record, lent lists and the line begun. The readings are an
-// array that is taken and handed back; the curve is not lent, for no line touches it.
-mod feeding; // a piece, line by line
-mod starting; // on a record that was opened
+// What feed promises is one equation with the run of the definitions: answer, record, lent lists and the line begun. The readings are an array that is
+// taken and handed back.
+mod feeding; // a piece: the line begun, and the lines after it
+mod lines; // the lines of a piece that none is begun before
 
 pub use feeding::feed;
-use readings::Reading;
-pub use starting::start;
-use steps::Run;
-
-pub struct Fed {
-    pub run: Run,
-    pub readings: [Reading; 600],
-}

@@ -3,31 +3,27 @@ use ends::End;
 use ends::Filed;
 use ends::after;
 use ends::told;
-use feed::Fed;
 use feed::feed;
-use feed::start;
-use opening::open_blocks;
-use own_readings::fresh_readings;
+use own_readings::open_own;
+use runs::Fed;
+use runs::fresh_readings;
+use runs::start;
 use sheet::finish;
 use site::Record;
-use site::open_answer;
-use steps::is_answered;
+use turns::is_answered;
 ghost use mathlib.Core.Path.{_≡_};
 ghost use Rattle.meaning.specs.Record.{neverOpened};
 ghost use Rattle.pieces.specs.Run.{started, fed};
 ghost use Rattle.readings.specs.Readings.{seen};
 ghost use Rattle.readings.specs.Columns.{world};
-ghost use Rattle.steps.specs.Views.{runView};
-ghost use Rattle.feed.specs.Curves.{EachCurve};
-ghost use Rattle.own_readings.specs.Start.{freshReadings};
+ghost use Rattle.runs.specs.Views.{runView};
+ghost use Rattle.runs.specs.Start.{freshReadings};
 ghost use Rattle.filed.specs.Ends.{HandsOut};
 
 // One more than the bytes after which a run has its answer: 8,032 lines of 321. Each turn reads one or more.
 const TURNS: u64 = 2_578_273;
 
-const READINGS: usize = 600;
-
-// On a record just opened, with readings that are made fresh.
+// On a record that is opened.
 fn begin(
     near: &mut [u32],
     far: &mut [u32],
@@ -37,11 +33,20 @@ fn begin(
 ) -> Fed
     ensures { λ r. ⌜ runView (r .run) (world (now (near .exit)) (now (far .exit)) (now (slots .exit)) (now (daily .exit)) (seen (r .readings)) (now (curve .exit))) ≡ started neverOpened (world (now (near .entry)) (now (far .entry)) (now (slots .entry)) (now (daily .entry)) (seen freshReadings) (now (curve .entry))) ⌝ }
 {
-    let sized = open_blocks(near, far, slots, daily, READINGS, curve);
-    let opened = open_answer(Record::never_opened(), sized);
+    let kept = open_own(
+        Record::never_opened(),
+        near,
+        far,
+        slots,
+        daily,
+        fresh_readings(),
+        curve,
+    );
+    let opened = kept.opened;
+    let readings = kept.readings;
     Fed {
         run: start(opened),
-        readings: fresh_readings(),
+        readings,
     }
 }
 
@@ -53,12 +58,13 @@ fn go_on(
     far: &mut [u32],
     slots: &mut [u16],
     daily: &mut [u32],
+    curve: &[u64],
 ) -> Fed
-    ensures { λ r. ⌜ EachCurve (λ c. runView (r .run) (world (now (near .exit)) (now (far .exit)) (now (slots .exit)) (now (daily .exit)) (seen (r .readings)) c) ≡ fed (runView («so_far» .run) (world (now (near .entry)) (now (far .entry)) (now (slots .entry)) (now (daily .entry)) (seen («so_far» .readings)) c)) (now (piece .entry))) ⌝ }
+    ensures { λ r. ⌜ runView (r .run) (world (now (near .exit)) (now (far .exit)) (now (slots .exit)) (now (daily .exit)) (seen (r .readings)) (now (curve .entry))) ≡ fed (runView («so_far» .run) (world (now (near .entry)) (now (far .entry)) (now (slots .entry)) (now (daily .entry)) (seen («so_far» .readings)) (now (curve .entry)))) (now (piece .entry)) ⌝ }
 {
     let run = so_far.run;
     let readings = so_far.readings;
-    feed(run, readings, piece, near, far, slots, daily)
+    feed(run, readings, piece, near, far, slots, daily, curve)
 }
 
 pub fn run(fd: i32) -> Filed
@@ -76,7 +82,15 @@ pub fn run(fd: i32) -> Filed
     while 0 < turns {
         let got = libc::read(fd, &mut buf);
         let n = io::count(got, &buf);
-        fed = go_on(fed, &buf[..n], &mut near, &mut far, &mut slots, &mut daily);
+        fed = go_on(
+            fed,
+            &buf[..n],
+            &mut near,
+            &mut far,
+            &mut slots,
+            &mut daily,
+            &curve,
+        );
         let run = fed.run;
         let answer = run.answer;
         let left = after(got, n, is_answered(answer), turns);

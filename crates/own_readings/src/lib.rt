@@ -1,29 +1,18 @@
-// The readings of a run, which holds them in an array of its own.
-use readings::Kind;
+// Opening, line and close for a caller that keeps its readings in an array of its own.
+//
+// The record's calls are lent the list of readings, a slice of structs, which the prover's own walk does not cover. Each function here lends its array
+// for one call and hands it back, so that every other caller has plain parameters alone.
+mod calls; // the calls
+mod packing; // what is handed back, with the readings
+
+pub use calls::close_own;
+pub use calls::line_own;
+pub use calls::open_own;
 use readings::Reading;
-ghost use mathlib.Core.Path.{_≡_};
-ghost use lib.ListN.{set};
-ghost use Rattle.own_readings.specs.Start.{freshReadings};
+use site::Opened;
 
-// At the run's start.
-pub fn fresh_readings() -> [Reading; 600]
-    ensures { λ r. ⌜ r ≡ freshReadings ⌝ }
-{
-    let fresh = Reading {
-        position: 0,
-        count: 0,
-        kind: Kind::E,
-    };
-    [fresh; 600]
-}
-
-// None is stored at 600.
-pub fn stored(lent: [Reading; 600], slot: usize, reading: Reading) -> [Reading; 600]
-    ensures { λ r. ⌜ r ≡ set lent slot reading ⌝ }
-{
-    let mut readings = lent;
-    if slot < 600 {
-        readings[slot] = reading;
-    }
-    readings
+// After an opening or a line.
+pub struct Kept {
+    pub opened: Opened,
+    pub readings: [Reading; 600],
 }

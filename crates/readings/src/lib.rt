@@ -1,9 +1,6 @@
 // The readings as one lent list: each has its position on the axis, its count in Wh and its kind.
 //
 // Few functions touch the list, and each does one thing: one reading is stored, all are made fresh, all are copied into columns.
-mod arrays; // the columns of an array
-
-pub use arrays::columns_in;
 ghost use mathlib.Core.Path.{_≡_};
 ghost use mathlib.Core.Bool.{cond};
 ghost use Prim.Native.Nat.{min};

@@ -4,24 +4,21 @@
 ghost use Prim.Native.Nat.{_≤_};
 ghost use lib.ListN.{length};
 use answers::Answer;
-use hearing::hear_line;
 use libc::STDIN_FILENO;
 use libc::STDOUT_FILENO;
-use opening::open_blocks;
+use own_readings::Kept;
+use own_readings::line_own;
+use own_readings::open_own;
+use readings::Reading;
+use runs::fresh_readings;
 use site::Record;
-use site::line_answer;
-use site::open_answer;
 
 const MISSING: u32 = 4294967295;
 
-// Readings, and places of the curve.
-const READINGS: usize = 600;
-
-const PLACES: usize = 4400;
-
-// A record, and what is to be written: nothing (0), a refusal (1) or a case's end (2).
+// A record with its readings, and what is to be written: nothing (0), a refusal (1) or a case's end (2).
 struct Stepped {
     record: Record,
+    readings: [Reading; 600],
     say: u64,
     number: u64,
     count: u64,
@@ -49,28 +46,32 @@ fn is_sign(line: &[u8], sign: u8) -> bool {
     line[0] == sign
 }
 
-fn answered(record: Record, answer: Answer) -> Stepped {
+// What is said of an answer, by its number and count.
+struct Said {
+    say: u64,
+    number: u64,
+    count: u64,
+}
+
+fn said_of(answer: Answer) -> Said {
     match answer {
-        Answer::Took => Stepped {
-            record: record,
+        Answer::Took => Said {
             say: 0,
             number: 0,
             count: 0,
         },
-        Answer::Refused { number, count } => Stepped {
-            record: record,
+        Answer::Refused { number, count } => Said {
             say: 1,
-            number: number,
-            count: count,
+            number,
+            count,
         },
         // no close is called
         Answer::Reports {
-            al,
-            filiere,
-            level,
-            points,
-        } => Stepped {
-            record: record,
+            al: _,
+            filiere: _,
+            level: _,
+            points: _,
+        } => Said {
             say: 0,
             number: 0,
             count: 0,
@@ -78,9 +79,23 @@ fn answered(record: Record, answer: Answer) -> Stepped {
     }
 }
 
+fn step_of(kept: Kept, said: Said) -> Stepped {
+    let opened = kept.opened;
+    let readings = kept.readings;
+    let record = opened.record;
+    Stepped {
+        record,
+        readings,
+        say: said.say,
+        number: said.number,
+        count: said.count,
+    }
+}
+
 // The blocks are made fresh for the next case.
 fn reopen(
     record: Record,
+    readings: [Reading; 600],
     near: &mut [u32],
     far: &mut [u32],
     slots: &mut [u16],
@@ -88,47 +103,34 @@ fn reopen(
     curve: &mut [u64],
 ) -> Stepped {
     let count = record.count;
-    let sized = open_blocks(near, far, slots, daily, READINGS, curve);
-    let o = open_answer(record, sized);
-    let fresh = o.record;
-    Stepped {
-        record: fresh,
+    let kept = open_own(record, near, far, slots, daily, readings, curve);
+    let said = Said {
         say: 2,
         number: 0,
-        count: count,
-    }
+        count,
+    };
+    step_of(kept, said)
 }
 
-// No line looks at the readings, so none is stored.
 fn given(
     record: Record,
+    readings: [Reading; 600],
     line: &[u8],
     near: &mut [u32],
     far: &mut [u32],
     slots: &mut [u16],
     daily: &mut [u32],
+    curve: &[u64],
 ) -> Stepped {
-    let progress = record.progress;
-    let heard = hear_line(
-        record.state,
-        record.count,
-        progress,
-        line,
-        near,
-        far,
-        slots,
-        daily,
-        READINGS,
-        PLACES,
-    );
-    let o = line_answer(heard);
-    let after = o.record;
-    let said = o.answer;
-    answered(after, said)
+    let kept = line_own(record, line, near, far, slots, daily, readings, curve);
+    let opened = kept.opened;
+    let answer = opened.answer;
+    step_of(kept, said_of(answer))
 }
 
 fn step(
     record: Record,
+    readings: [Reading; 600],
     line: &[u8],
     near: &mut [u32],
     far: &mut [u32],
@@ -137,12 +139,21 @@ fn step(
     curve: &mut [u64],
 ) -> Stepped {
     if is_sign(line, b'=') {
-        return reopen(record, near, far, slots, daily, curve);
+        return reopen(record, readings, near, far, slots, daily, curve);
     }
     if is_sign(line, b'~') {
-        return given(record, line, &mut near[..0], far, slots, daily);
+        return given(
+            record,
+            readings,
+            line,
+            &mut near[..0],
+            far,
+            slots,
+            daily,
+            curve,
+        );
     }
-    given(record, line, near, far, slots, daily)
+    given(record, readings, line, near, far, slots, daily, curve)
 }
 
 fn write_step(say: u64, number: u64, count: u64) {
@@ -168,12 +179,14 @@ fn main() {
     let mut text = io::large_buffer();
     let n = io::read_full(STDIN_FILENO, &mut text);
     let mut record = Record::never_opened();
+    let mut readings = fresh_readings();
     let mut at = 0;
     while at < n {
         let e = line_end(&text, at);
         let line = &text[at..e];
         let r = step(
             record,
+            readings,
             line,
             &mut near,
             &mut far,
@@ -183,7 +196,9 @@ fn main() {
         );
         write_step(r.say, r.number, r.count);
         let next = r.record;
+        let kept = r.readings;
         record = next;
+        readings = kept;
         at = e + 1;
     }
 }

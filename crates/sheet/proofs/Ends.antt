@@ -65,14 +65,12 @@ unfolding lastLine
 last-given o [] h = absurd (omega arith)
 last-given o (b ∷ l) h = refl
 
-pub ended-last : (o : Out) (line : List ℕ) (h : ℕ) (r : Run) → length line ≡ 321 → (not (isAnswered (o .answer)) && ltb 0 h) ≡ true
-    → r ≡ stepped true (runOf o (take (min h 320) line)) [] → shut (r .out) ≡ ended (runOf o (take (min h 320) line))
-unfolding stepped given
-ended-last o line h r n t e = go (isAnswered (o .answer)) refl t
+pub ended-last : (o : Out) (line : List ℕ) (h : ℕ) (o′ : Out) → length line ≡ 321 → (not (isAnswered (o .answer)) && ltb 0 h) ≡ true
+    → o′ ≡ lineOf (o .after) (take (min h 320) line) (o .world) → shut o′ ≡ ended (runOf o (take (min h 320) line))
+ended-last o line h o′ n t e = go (isAnswered (o .answer)) refl t
   where
-    go : (b : Bool) → isAnswered (o .answer) ≡ b → (not b && ltb 0 h) ≡ true → shut (r .out) ≡ ended (runOf o (take (min h 320) line))
+    go : (b : Bool) → isAnswered (o .answer) ≡ b → (not b && ltb 0 h) ≡ true → shut o′ ≡ ended (runOf o (take (min h 320) line))
     go true u q = absurd (false≢true q)
     go false u q =
-        let l = take (min h 320) line in
         let k : 0 < length (take (min h 320) line) = omega (arith, length-take (min h 320) line, ltb-true 0 h q) in
-        rw (e, append-nil (take (min h 320) line), ended-open o (take (min h 320) line) u, last-given o (take (min h 320) line) k)
+        rw (e, ended-open o (take (min h 320) line) u, last-given o (take (min h 320) line) k)

@@ -1,31 +1,27 @@
 // The end of the input.
 use answers::Answer;
 use begun::is_begun;
+use begun::least;
 use closing::Year;
-use ending::close_blocks;
-use own_readings::stored;
+use own_readings::close_own;
+use own_readings::line_own;
 use readings::Reading;
-use readings::columns_in;
+use runs::Run;
 use site::Closed;
+use site::Opened;
 use site::Record;
-use site::close_answer;
-use steps::Run;
-use steps::is_answered;
-use steps::step;
+use turns::is_answered;
 ghost use mathlib.Core.Path.{_≡_};
 ghost use mathlib.Core.Bool.{_&&_, not};
 ghost use lib.Dec.{ltb};
-ghost use Rattle.meaning.specs.Calls.{out};
 ghost use Rattle.pieces.specs.Run.{isAnswered, shut, ended};
 ghost use Rattle.answers.specs.Views.{answerView};
 ghost use Rattle.readings.specs.Readings.{seen};
 ghost use Rattle.readings.specs.Columns.{world};
 ghost use Rattle.ending.specs.Ends.{handed};
-ghost use Rattle.site.specs.Views.{view, closesBack};
-ghost use Rattle.steps.specs.Views.{runView};
+ghost use Rattle.site.specs.Views.{handsBack, closesBack};
+ghost use Rattle.runs.specs.Views.{runView};
 ghost use Rattle.sheet.specs.Ended.{unclosedOf, SomeReadings};
-
-const READINGS: usize = 600;
 
 // No years stand beside an answer that came before the close.
 fn unclosed(record: Record, answer: Answer) -> Closed
@@ -43,9 +39,9 @@ fn unclosed(record: Record, answer: Answer) -> Closed
     }
 }
 
-// The close, unless the run has its answer.
+// The close after the last call, unless that gave the run its answer.
 fn shut_run<'a>(
-    run: Run,
+    opened: Opened,
     readings: [Reading; 600],
     near: &'a [u32],
     far: &'a [u32],
@@ -53,27 +49,14 @@ fn shut_run<'a>(
     daily: &[u32],
     curve: &mut [u64],
 ) -> Closed
-    ensures { λ r. ⌜ closesBack r (world (now (near .entry)) (now (far .entry)) (now (slots .entry)) (now (daily .entry)) (seen readings) (now (curve .exit))) ≡ handed (shut (out (answerView (run .answer)) (view (run .«record»)) (world (now (near .entry)) (now (far .entry)) (now (slots .entry)) (now (daily .entry)) (seen readings) (now (curve .entry))))) ⌝ }
+    ensures { λ r. ⌜ closesBack r (world (now (near .entry)) (now (far .entry)) (now (slots .entry)) (now (daily .entry)) (seen readings) (now (curve .exit))) ≡ handed (shut (handsBack opened (world (now (near .entry)) (now (far .entry)) (now (slots .entry)) (now (daily .entry)) (seen readings) (now (curve .entry))))) ⌝ }
 {
-    let record = run.record;
-    let answer = run.answer;
+    let record = opened.record;
+    let answer = opened.answer;
     if is_answered(answer) {
         return unclosed(record, answer);
     }
-    let progress = record.progress;
-    let ended = close_blocks(
-        record.state,
-        record.count,
-        progress,
-        near,
-        far,
-        slots,
-        daily,
-        columns_in(readings),
-        READINGS,
-        curve,
-    );
-    close_answer(record, ended)
+    close_own(record, near, far, slots, daily, readings, curve)
 }
 
 // Whether a last line is begun that lacks its byte 10.
@@ -96,13 +79,16 @@ pub fn finish(
 ) -> Closed
     ensures { λ r. ⌜ SomeReadings (λ rs. closesBack r (world (now (near .exit)) (now (far .exit)) (now (slots .exit)) (now (daily .exit)) (seen rs) (now (curve .exit))) ≡ handed (ended (runView run (world (now (near .entry)) (now (far .entry)) (now (slots .entry)) (now (daily .entry)) (seen lent) (now (curve .entry)))))) ⌝ }
 {
+    let record = run.record;
+    let answer = run.answer;
     if !has_last(run) {
-        return shut_run(run, lent, near, far, slots, daily, curve);
+        let opened = Opened { record, answer };
+        return shut_run(opened, lent, near, far, slots, daily, curve);
     }
     let line = run.line;
-    let s = step(run, &line[..0], true, near, far, slots, daily, curve.len());
-    let last = s.run;
-    let reading = s.reading;
-    let readings = stored(lent, s.slot, reading);
-    shut_run(last, readings, near, far, slots, daily, curve)
+    let held = least(run.held, 320);
+    let kept = line_own(record, &line[..held], near, far, slots, daily, lent, curve);
+    let opened = kept.opened;
+    let readings = kept.readings;
+    shut_run(opened, readings, near, far, slots, daily, curve)
 }

@@ -7,11 +7,11 @@ use Rattle.refusals.proofs.main.Statement.{statement}
 use Rattle.refusals.proofs.main.Tie as tie
 
 abbrev Inv-loop : tie.InvT-loop
-Inv-loop near₀ far₀ slots₀ daily₀ curve₀ text n record₀ at₀ near far slots daily curve «record» at =
+Inv-loop near₀ far₀ slots₀ daily₀ curve₀ text n record₀ readings₀ at₀ near far slots daily curve «record» readings at =
     (length near ≡ 15200) × ((length far ≡ 15200) × ((length slots ≡ 30400) × ((length daily ≡ 4392) × ((length curve ≡ 4400) × ((length text ≡ 65536) × (n ≤ 65536))))))
 
 abbrev μ-loop : tie.MeasureT-loop
-μ-loop near₀ far₀ slots₀ daily₀ curve₀ text n record₀ at₀ near far slots daily curve «record» at =
+μ-loop near₀ far₀ slots₀ daily₀ curve₀ text n record₀ readings₀ at₀ near far slots daily curve «record» readings at =
     65536 - at
 
 large-buffer-requires : tie.Need-large-buffer-requires Inv-loop μ-loop
@@ -26,9 +26,12 @@ read-full-requires c κs = search needs
 never-opened-requires : tie.Need-never-opened-requires Inv-loop μ-loop
 never-opened-requires c κs = search needs
 
+fresh-readings-requires : tie.Need-fresh-readings-requires Inv-loop μ-loop
+fresh-readings-requires c κs = search needs
+
 loop-holds : tie.Need-loop-holds Inv-loop μ-loop
 loop-holds c =
-    let r = c .before .before .read-full in let l = c .before .before .before .before .large-buffer in
+    let r = c .before .before .before .read-full in let l = c .before .before .before .before .before .large-buffer in
     (refl, (refl, (refl, (refl, (refl, (omega (arith, r .kept, l .ensures), omega (arith, r .ensures .0, r .kept, l .ensures)))))))
 
 slice-aggregate-line-end : tie.Need-slice-aggregate-line-end Inv-loop μ-loop
@@ -68,13 +71,13 @@ write-step-requires : tie.Need-write-step-requires Inv-loop μ-loop
 write-step-requires c κs = search needs
 
 add-at : tie.Need-add-at Inv-loop μ-loop
-add-at c = omega (arith, c .before .before .before .before .before .before .before .before .before .before .before .before .before .before .before .line-end .ensures, c .before .before .before .before .before .before .before .before .before .before .before .before .before .before .before .before .before .before .loop .inv)
+add-at c = omega (arith, c .before .before .before .before .before .before .before .before .before .before .before .before .before .before .before .before .line-end .ensures, c .before .before .before .before .before .before .before .before .before .before .before .before .before .before .before .before .before .before .before .loop .inv)
 
 loop-less : tie.Need-loop-less Inv-loop μ-loop
-loop-less c = omega (arith, c .before .before .before .before .before .before .before .before .before .before .before .before .before .before .before .line-end .ensures, c .before .before .before .before .before .before .before .before .before .before .before .before .before .before .before .before .before .loop-test .taken, c .before .before .before .before .before .before .before .before .before .before .before .before .before .before .before .before .before .before .loop .inv)
+loop-less c = omega (arith, c .before .before .before .before .before .before .before .before .before .before .before .before .before .before .before .before .line-end .ensures, c .before .before .before .before .before .before .before .before .before .before .before .before .before .before .before .before .before .before .loop-test .taken, c .before .before .before .before .before .before .before .before .before .before .before .before .before .before .before .before .before .before .before .loop .inv)
 
 loop-again : tie.Need-loop-again Inv-loop μ-loop
-loop-again c = omega (arith, c .before .before .before .before .before .before .before .step .kept, c .before .before .before .before .before .before .before .before .before .before .before .before .before .before .before .line-end .ensures, c .before .before .before .before .before .before .before .before .before .before .before .before .before .before .before .before .before .before .loop .inv)
+loop-again c = omega (arith, c .before .before .before .before .before .before .before .before .step .kept, c .before .before .before .before .before .before .before .before .before .before .before .before .before .before .before .before .line-end .ensures, c .before .before .before .before .before .before .before .before .before .before .before .before .before .before .before .before .before .before .before .loop .inv)
 
 returns : tie.Need-returns Inv-loop μ-loop
 returns c = search needs
@@ -89,6 +92,7 @@ main-spec =
     slice-aggregate-read-full
     read-full-requires
     never-opened-requires
+    fresh-readings-requires
     loop-holds
     slice-aggregate-line-end
     line-end-requires

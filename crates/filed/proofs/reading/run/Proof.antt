@@ -4,14 +4,14 @@ use borrow.Author.Needs.{needs}
 use lib.ListN.{length}
 use Rattle.readings.specs.Readings.{seen}
 use Rattle.readings.specs.Columns.{world}
-use Rattle.steps.specs.Views.{runView}
+use Rattle.runs.specs.Views.{runView}
 use Rattle.filed.proofs.Fresh.{fresh-sized}
 use Rattle.filed.proofs.Going.{Going, going-first, going-next, fewer, hands-out}
 use Rattle.filed.proofs.reading.run.Statement.{statement}
 use Rattle.filed.proofs.reading.run.Tie as tie
 use Rattle.filed.proofs.reading.run.Reads as reads
 use Rattle.filed.proofs.reading.run.Lts as lts
-use Rattle.steps.proofs.is_answered.Reads as is-answered-reads
+use Rattle.turns.proofs.is_answered.Reads as is-answered-reads
 use Rattle.ends.proofs.after.Reads as after-reads
 use Rattle.ends.proofs.told.Reads as told-reads
 use Rattle.filed.proofs.reading.begin.Reads as begin-reads
@@ -86,6 +86,9 @@ slice-aggregate-go-on-4 c = sym (c .before .before .before .before .before .befo
 slice-aggregate-go-on-5 : tie.Need-slice-aggregate-go-on-5 Inv-loop μ-loop
 slice-aggregate-go-on-5 c = sym (c .before .before .before .before .before .before .before .before .before .before .before .loop .inv .3)
 
+slice-aggregate-go-on-6 : tie.Need-slice-aggregate-go-on-6 Inv-loop μ-loop
+slice-aggregate-go-on-6 c = sym (c .before .before .before .before .before .before .before .before .before .before .before .before .loop .inv .4)
+
 go-on-requires : tie.Need-go-on-requires Inv-loop μ-loop
 go-on-requires c κs = search needs
 
@@ -93,23 +96,23 @@ is-answered-requires : tie.Need-is-answered-requires Inv-loop μ-loop
 is-answered-requires c κs = search needs
 
 after-requires : tie.Need-after-requires Inv-loop μ-loop
-after-requires c κs = c .before .before .before .before .before .before .before .before .before .before .before .before .before .before .before .before .before .loop-test .taken
+after-requires c κs = c .before .before .before .before .before .before .before .before .before .before .before .before .before .before .before .before .before .before .loop-test .taken
 
 loop-less : tie.Need-loop-less Inv-loop μ-loop
-loop-less c = fewer _ _ _ _ _ (c .before .before .before .before .before .before .before .before .before .before .before .before .before .before .before .before .before .before .loop-test .taken) (c .after .ensures)
+loop-less c = fewer _ _ _ _ _ (c .before .before .before .before .before .before .before .before .before .before .before .before .before .before .before .before .before .before .before .loop-test .taken) (c .after .ensures)
 
 loop-again : tie.Need-loop-again Inv-loop μ-loop
 loop-again c =
-    let l = c .before .before .before .before .before .before .before .before .before .before .before .before .before .before .before .before .before .before .before .loop in
+    let l = c .before .before .before .before .before .before .before .before .before .before .before .before .before .before .before .before .before .before .before .before .loop in
     let f = c .before .before .before .before .before .before .before .go-on in
-    let n = c .before .before .before .before .before .before .before .before .before .before .before .before .before .count in (
+    let n = c .before .before .before .before .before .before .before .before .before .before .before .before .before .before .count in (
       f .kept .1 .1 .0 ∙ l .inv .0,
       f .kept .1 .1 .1 .0 ∙ l .inv .1,
       f .kept .1 .1 .1 .1 .0 ∙ l .inv .2,
       f .kept .1 .1 .1 .1 .1 .0 ∙ l .inv .3,
       l .inv .4,
-      c .before .before .before .before .before .before .before .before .before .before .before .before .before .before .before .before .read .kept .1 .0 ∙ l .inv .5,
-      going-next (runView (l .fed .run) (world (l .near) (l .far) (l .slots) (l .daily) (seen (l .fed .readings)) _)) _ (l .turns) (n .result) _ _ (f .ensures _ (l .inv .4)) (n .ensures .0 .1) (c .before .is-answered .ensures) (c .before .before .before .before .before .before .before .before .before .before .before .before .before .before .before .before .before .before .loop-test .taken) (l .end) _ _ (c .after .ensures) (l .inv .6),
+      c .before .before .before .before .before .before .before .before .before .before .before .before .before .before .before .before .before .read .kept .1 .0 ∙ l .inv .5,
+      going-next (runView (l .fed .run) (world (l .near) (l .far) (l .slots) (l .daily) (seen (l .fed .readings)) _)) _ (l .turns) (n .result) _ _ (f .ensures) (n .ensures .0 .1) (c .before .is-answered .ensures) (c .before .before .before .before .before .before .before .before .before .before .before .before .before .before .before .before .before .before .before .loop-test .taken) (l .end) _ _ (c .after .ensures) (l .inv .6),
     )
 
 slice-aggregate-finish : tie.Need-slice-aggregate-finish Inv-loop μ-loop
@@ -163,6 +166,7 @@ run-spec =
     slice-aggregate-go-on-3
     slice-aggregate-go-on-4
     slice-aggregate-go-on-5
+    slice-aggregate-go-on-6
     go-on-requires
     is-answered-requires
     after-requires

@@ -1,20 +1,20 @@
-use mathlib.Core.Path.{_≡_, refl, ap, sym, _∙_}
+use mathlib.Core.Path.{_≡_, ap, sym, _∙_}
+use native.Mathlib.Omega.{arith}
+use lib.ListN.{length, length-take}
+use borrow.Author.Needs.{needs}
 use borrow.Author.Tests.{not-true, not-false}
-use lib.ListN.{length, set}
-use Rattle.meaning.specs.Calls.{out}
-use Rattle.answers.specs.Views.{answerView}
 use Rattle.readings.specs.Readings.{seen}
 use Rattle.readings.specs.Columns.{world}
 use Rattle.ending.specs.Ends.{handed}
-use Rattle.site.specs.Views.{view}
+use Rattle.site.specs.Views.{handsBack}
+use Rattle.runs.specs.Views.{openedOf}
 use Rattle.sheet.proofs.Ends.{ended-now, ended-last}
-use borrow.Author.Needs.{needs}
 use Rattle.sheet.proofs.finishing.finish.Statement.{statement}
 use Rattle.sheet.proofs.finishing.finish.Tie as tie
 use Rattle.sheet.proofs.finishing.finish.Reads as reads
 use Rattle.sheet.proofs.finishing.finish.Lts as lts
-use Rattle.steps.proofs.step.Reads as step-reads
-use Rattle.own_readings.proofs.stored.Reads as stored-reads
+use Rattle.begun.proofs.least.Reads as least-reads
+use Rattle.own_readings.proofs.line_own.Reads as line-own-reads
 use Rattle.sheet.proofs.finishing.has_last.Reads as has-last-reads
 use Rattle.sheet.proofs.finishing.shut_run.Reads as shut-run-reads
 
@@ -41,21 +41,24 @@ same-length-5 c = search needs
 
 returns : tie.Need-returns
 returns c =
-    let a = c .before .before .before .before .before .before .before .before .before .before .before .before .before .before .before .args in
-    let o = out (answerView (a .run .answer)) (view (a .run .«record»)) (world (a .near .now) (a .far .now) (a .slots .now) (a .daily .now) (seen (a .lent)) (a .curve .now)) in
+    let a = c .before .before .before .before .before .before .before .before .before .before .before .before .before .before .before .before .args in
+    let o = handsBack (openedOf (a .run)) (world (a .near .now) (a .far .now) (a .slots .now) (a .daily .now) (seen (a .lent)) (a .curve .now)) in
     (a .lent, c .before .before .shut-run .ensures ∙ ap handed (ended-now o (a .run .line) (a .run .held) (sym (c .before .before .before .before .before .before .before .before .before .has-last .ensures) ∙ not-true _ (c .before .before .before .before .before .before .before .before .if1 .taken))))
 
+least-requires : tie.Need-least-requires
+least-requires c κs = search needs
+
 array-share-prefix-line : tie.Need-array-share-prefix-line
-array-share-prefix-line c = search needs
+array-share-prefix-line c =
+    let n : length (c .before .before .before .before .before .before .before .before .before .before .args .run .line) ≡ 321 = (let g = c .before .before .before .before .before .before .before .before .before .before .good .0 in search needs) in omega (arith, n, c .least .ensures)
 
-slice-aggregate-step : tie.Need-slice-aggregate-step
-slice-aggregate-step c = search needs
+slice-aggregate-line-own : tie.Need-slice-aggregate-line-own
+slice-aggregate-line-own c =
+    let a = c .before .before .before .before .before .before .before .before .before .before .before .args in
+    let n : length (a .run .line) ≡ 321 = (let g = c .before .before .before .before .before .before .before .before .before .before .before .good .0 in search needs) in omega (arith, n, c .before .least .ensures, length-take (c .before .least .result) (a .run .line))
 
-step-requires : tie.Need-step-requires
-step-requires c κs = search needs
-
-stored-requires : tie.Need-stored-requires
-stored-requires c κs = search needs
+line-own-requires : tie.Need-line-own-requires
+line-own-requires c κs = search needs
 
 shut-run-requires-2 : tie.Need-shut-run-requires-2
 shut-run-requires-2 c κs = search needs
@@ -77,12 +80,11 @@ same-length-10 c = search needs
 
 returns-2 : tie.Need-returns-2
 returns-2 c =
-    let a = c .before .before .before .before .before .before .before .before .before .before .before .before .before .before .before .before .before .before .before .before .before .before .before .before .before .before .before .before .before .before .before .before .before .args in
-    let o = out (answerView (a .run .answer)) (view (a .run .«record»)) (world (a .near .now) (a .far .now) (a .slots .now) (a .daily .now) (seen (a .lent)) (a .curve .now)) in
-    let s = c .before .before .before .before .before .before .before .before .before .before .before .before .before .before .before .before .before .before .before .step in
-    let line : length (a .run .line) ≡ 321 = (let g = c .before .before .before .before .before .before .before .before .before .before .before .before .before .before .before .before .before .before .before .before .before .before .before .before .before .before .before .before .before .before .before .before .before .good .0 in search needs) in
-    let long : length (a .lent) ≡ 600 = (let g = c .before .before .before .before .before .before .before .before .before .before .before .before .before .before .before .before .before .before .before .before .before .before .before .before .before .before .before .before .before .before .before .before .before .good in search needs) in
-    (set (a .lent) (s .result .slot) (s .result .reading), (rw (c .before .before .before .before .before .before .before .before .stored .ensures) at (c .before .before .shut-run2 .ensures)) ∙ ap handed (ended-last o (a .run .line) (a .run .held) _ line (sym (c .before .before .before .before .before .before .before .before .before .before .before .before .before .before .before .before .before .before .before .before .before .before .before .before .before .before .before .has-last .ensures) ∙ not-false _ (c .before .before .before .before .before .before .before .before .before .before .before .before .before .before .before .before .before .before .before .before .before .before .before .before .before .before .if1 .left)) (s .ensures (a .lent) (a .curve .now) long refl)))
+    let a = c .before .before .before .before .before .before .before .before .before .before .before .before .before .before .before .before .before .before .before .before .before .before .before .before .before .before .before .before .before .before .before .before .before .before .before .args in
+    let o = handsBack (openedOf (a .run)) (world (a .near .now) (a .far .now) (a .slots .now) (a .daily .now) (seen (a .lent)) (a .curve .now)) in
+    let k = c .before .before .before .before .before .before .before .before .before .before .before .before .before .before .before .before .before .before .line-own in
+    let n : length (a .run .line) ≡ 321 = (let g = c .before .before .before .before .before .before .before .before .before .before .before .before .before .before .before .before .before .before .before .before .before .before .before .before .before .before .before .before .before .before .before .before .before .before .before .good .0 in search needs) in
+    (k .result .readings, c .before .before .shut-run2 .ensures ∙ ap handed (ended-last o (a .run .line) (a .run .held) _ n (sym (c .before .before .before .before .before .before .before .before .before .before .before .before .before .before .before .before .before .before .before .before .before .before .before .before .before .before .before .before .has-last .ensures) ∙ not-false _ (c .before .before .before .before .before .before .before .before .before .before .before .before .before .before .before .before .before .before .before .before .before .before .before .before .before .before .before .if1 .left)) (rw (c .before .before .before .before .before .before .before .before .before .before .before .before .before .before .before .before .before .before .before .before .before .before .before .before .before .least .ensures) at (k .ensures))))
 
 pub finish-spec : {M : Type 1} → statement M
 finish-spec =
@@ -96,10 +98,10 @@ finish-spec =
     same-length-4
     same-length-5
     returns
+    least-requires
     array-share-prefix-line
-    slice-aggregate-step
-    step-requires
-    stored-requires
+    slice-aggregate-line-own
+    line-own-requires
     shut-run-requires-2
     same-length-6
     same-length-7

@@ -1,0 +1,27 @@
+// A line of a piece, given to a record.
+use readings::Reading;
+use turns::Turn;
+use turns::line_in;
+use turns::next_turn;
+ghost use Rattle.readings.specs.Readings.{seen};
+ghost use Rattle.readings.specs.Columns.{world};
+ghost use Rattle.turns.specs.Gives.{Gives};
+
+// The turn's line is given, and the next one looked for.
+pub fn give(
+    turn: Turn,
+    piece: &[u8],
+    near: &mut [u32],
+    far: &mut [u32],
+    slots: &mut [u16],
+    daily: &mut [u32],
+    readings: &mut [Reading],
+    curve: &[u64],
+) -> Turn
+    ensures { λ r. ⌜ Gives r turn (now (piece .entry)) (world (now (near .entry)) (now (far .entry)) (now (slots .entry)) (now (daily .entry)) (seen (now (readings .entry))) (now (curve .entry))) (world (now (near .exit)) (now (far .exit)) (now (slots .exit)) (now (daily .exit)) (seen (now (readings .exit))) (now (curve .entry))) ⌝ }
+{
+    let line = line_in(piece, turn.from, turn.to);
+    let opened = turn.record
+        .line(line, near, far, slots, daily, readings, curve);
+    next_turn(opened, piece, turn.past)
+}

@@ -1,0 +1,25 @@
+def world(p): return '(world %s %s %s %s (seen %s) %s)'%tuple(p(z) for z in ('near','far','slots','daily','readings','curve'))
+now=lambda z:'(%s .now)'%z
+held=lambda z:'(curve .now)' if z=='curve' else '(i .%s′)'%z
+D=dict(
+  crate='given_lines', fn='give_lines', cwd='.',
+  comment='The invariant: the bytes left, fed to the run so far, give what the whole piece gives. All that the proof knows of `give` and `next_turn` is that each meets its contract.',
+  params=[('opened','value','O'),('piece','shr','u8'),('near','mut','u32'),('far','mut','u32'),('slots','mut','u16'),('daily','mut','u32'),('readings','mut','R'),('curve','shr','u64')],
+  state='U', test='whole',
+  types=dict(
+    U=dict(name='Turn',mod='Rattle.turns.proofs.Turn',decl='Turn',**{'decl-mod':'Rattle.turns.specs.declared.Turn'}),
+    O=dict(name='Opened',mod='Rattle.site.proofs.Opened',decl='Opened',**{'decl-mod':'Rattle.site.specs.declared.Opened'}),
+    R=dict(name='Reading',mod='Rattle.readings.proofs.Reading',decl='Reading',**{'decl-mod':'Rattle.readings.specs.declared.Reading'}),
+  ),
+  imports=['use Rattle.readings.specs.Readings.{seen}','use Rattle.readings.specs.Columns.{world}','use Rattle.turns.specs.Turns.{turnOf}','use Rattle.turns.specs.Gives.{Gives}','use Rattle.given_lines.proofs.Again.{Lent, lends, returns}','use Rattle.given_lines.proofs.Rests.{rests}','use Rattle.turns.proofs.Given.{Going, going-first, going-next, going-nearer, going-over}'],
+  first=dict(fn='next_turn',al='next-turn',Name='NextTurn',mod='Rattle.turns.proofs.next_turn',key='#turns·next-turn',refs=['piece'],args=['opened','piece','0'],lits=['0'],fact='r ≡ turnOf opened (piece .now) 0'),
+  call=dict(fn='give',al='give',Name='Give',mod='Rattle.giving.proofs.give',key='#giving·give'),
+  # in the record: its own lists and the parameters'; in the walk: the state's
+  inv=lambda s,l,p:'Going opened piece %s %s %s'%(world(p),s,world(lambda z:z if z=='curve' else l(z))),
+  said=lambda s,r,l,n:'Gives %s %s (piece .now) %s %s'%(r,s,world(lambda z:'(curve .now)' if z=='curve' else l(z)),world(lambda z:'(curve .now)' if z=='curve' else n(z))),
+  measure=lambda i:'length (piece .now) - %s .state .from'%i,
+  says='(going-over opened (piece .now) %s (i .state) %s (i .going) e)'%(world(now),world(held)),
+  next='going-next opened (piece .now) %s (i .state) %s (i .going) e r %s said'%(world(now),world(held),world(lambda z:'(curve .now)' if z=='curve' else z+'″')),
+  nearer='(going-nearer opened (piece .now) %s (i .state) %s (i .going) e r %s said)'%(world(now),world(held),world(lambda z:'(curve .now)' if z=='curve' else z+'″')),
+  begins='going-first opened (piece .now) %s r e'%world(now),
+)
