@@ -3,7 +3,7 @@
 
 A case is a list of lines; after it stands a line with the sign = alone. The program starts with a record that was never opened and gives it
 the lines in order, whatever was refused before. For each refused line it writes the number and the count of the refusal. At = it writes =
-and the record's count, and opens the record anew. A line with the sign ~ alone stands for a line given with a near block of 15,199 points.
+and the record's count, and opens the record anew. A line with the sign ~ alone stands for a line given with an empty near block.
 The numbers and counts here are written by hand from document 01 (sections "Stops that come from the input" and "Stops that come from the
 state"), never from a run."""
 import os

@@ -7,7 +7,7 @@ use native.Mathlib.Omega.{arith}
 use lib.Dec.{eqb, ltb}
 use lib.ListN.{length, take, drop, length-append, length-take, length-drop, drop-of-length-le, take-append-drop}
 use lib.Seq.{take-all}
-use borrow.Author.Tests.{ltb-true, ltb-false, lt-ltb}
+use borrow.Author.Tests.{ltb-true, ltb-false}
 use Rattle.digits.specs.Written.{written}
 use Rattle.digits.proofs.Written.{length-written, take-written}
 use Rattle.meaning.specs.Line.{Line}
@@ -17,7 +17,7 @@ use Rattle.pieces.specs.Run.{Run, runOf, isAnswered, given, longer, fedByte, fe
 use Rattle.pieces.specs.Parts.{stepped}
 use Rattle.pieces.proofs.Lines.{Endless}
 use Rattle.pieces.proofs.Feeding.{fed-append}
-use Rattle.pieces.proofs.Parts.{end-endless, fed-begun, turn-fed}
+use Rattle.pieces.proofs.Parts.{end-endless, longer-given, rest-is, fed-begun, turn-fed}
 use Rattle.begun.specs.declared.Joined.{Joined}
 use Rattle.begun.specs.Joined.{heldOf, limitOf, addedOf, joinedOf}
 use Rattle.begun.proofs.Joins.{bytes-fit}
@@ -29,10 +29,6 @@ use Rattle.own_lines.specs.declared.KeptTurn.{KeptTurn}
 use Rattle.runs.specs.declared.Fed.{Fed}
 use Rattle.runs.specs.Views.{runView}
 use Rattle.feed.specs.Views.{leftOf, heldWith}
-
--- what `&piece[k..]` holds
-rest-is : (t : List ℕ) (k : ℕ) → take (length t - k) (drop k t) ≡ drop k t
-rest-is t k = take-all (length t - k) (drop k t) (omega (arith, length-drop k t))
 
 -- ---- the line begun is short
 longer-short : (o : Out) (l : Line) → length ((longer o l) .begun) ≤ 320
@@ -148,15 +144,11 @@ module _ (line t : List ℕ) (h : ℕ) where
         let w : Endless t = rw q at u in
         rw (m, begun-is, a) (sym (fed-begun O unanswered t (take k line) w (omega (arith, length-take k line, ltb-false 320 (k + e) (x .1)))))
 
-    longer-given : (l : Line) → 320 < length l → longer O l ≡ given O l
-    unfolding longer
-    longer-given l p = rw (lt-ltb 320 (length l) p)
-
     stepped-given : (b : Bool) → ltb e n ≡ b → (b || ltb 320 (k + e)) ≡ true → stepped b (runOf O (take k line)) (take e t) ≡ given O (take k line ++ take e t)
     unfolding stepped
     stepped-given true p q = refl
     stepped-given false p q =
-        longer-given (take k line ++ take e t) (omega (arith, length-append (take k line) (take e t), length-take k line, bytes-are, ltb-true 320 (k + e) q))
+        longer-given O (take k line ++ take e t) (omega (arith, length-append (take k line) (take e t), length-take k line, bytes-are, ltb-true 320 (k + e) q))
 
     some-left : (b : Bool) → ltb e n ≡ b → (b || ltb 320 (k + e)) ≡ true → 0 < length t
     some-left true p q = omega (arith, ltb-true e n p, fits)

@@ -7,8 +7,8 @@ use Prim.Native.Nat.{ℕ, zero, suc, _+_, _-_, _≤_, _<_, min}
 use native.Mathlib.Numerals.{add-one}
 use native.Mathlib.Omega.{arith}
 use lib.Dec.{eqb, ltb}
-use lib.ListN.{length, take, drop, getD, length-append, length-take, drop-of-length-le, take-append-drop}
-use lib.Seq.{drop-cons, take-suc, getD-take, take-append-le}
+use lib.ListN.{length, take, drop, getD, length-append, length-take, length-drop, drop-of-length-le}
+use lib.Seq.{drop-cons, take-suc, take-all, getD-take}
 use borrow.Author.Tests.{eq-eqb, ne-eqb, eqb-true, eqb-false, lt-ltb, le-ltb, ltb-true, ltb-false}
 use Rattle.lists.specs.Lists.{Each, each-nil, each-cons}
 use Rattle.meaning.specs.Line.{Line}
@@ -61,6 +61,24 @@ end-ten (b ∷ l) h = go (eqb b 10) refl h (end-ten l)
     go true e k r = eqb-true b 10 e
     go false e k r = r (omega arith)
 
+-- ---- bytes of a line begun: it is given at its 321st
+pub longer-given : (o : Out) (l : Line) → 320 < length l → longer o l ≡ given o l
+unfolding longer
+longer-given o l h = rw (lt-ltb 320 (length l) h)
+
+pub longer-held : (o : Out) (l : Line) → length l ≤ 320 → longer o l ≡ runOf o l
+unfolding longer
+longer-held o l h = rw (le-ltb 320 (length l) h)
+
+pub none-left : (r : Run) (t : List ℕ) → length t ≤ 0 → fed r t ≡ r
+unfolding fed
+none-left r [] h = refl
+none-left r (b ∷ t) h = absurd (omega arith)
+
+-- what `&t[k..]` holds
+pub rest-is : (t : List ℕ) (k : ℕ) → take (length t - k) (drop k t) ≡ drop k t
+rest-is t k = take-all (length t - k) (drop k t) (omega (arith, length-drop k t))
+
 -- ---- bytes that end no line
 module _ (o : Out) (h : isAnswered (o .answer) ≡ false) where
   fed-open : (b : ℕ) (l : Line) → b ≢ 10 → fedByte (runOf o l) b ≡ longer o (l ++ (b ∷ []))
@@ -68,8 +86,7 @@ module _ (o : Out) (h : isAnswered (o .answer) ≡ false) where
   fed-open b l n = rw (h, ne-eqb b 10 n)
 
   fed-held : (b : ℕ) (l : Line) → b ≢ 10 → length l < 320 → fedByte (runOf o l) b ≡ runOf o (l ++ (b ∷ []))
-  unfolding longer
-  fed-held b l n k = fed-open b l n ∙ rw (le-ltb 320 (length (l ++ (b ∷ []))) (omega (arith, length-append l (b ∷ []))))
+  fed-held b l n k = fed-open b l n ∙ longer-held o (l ++ (b ∷ [])) (omega (arith, length-append l (b ∷ [])))
 
   -- the last of them may be the 321st
   pub fed-longer : (p : List ℕ) (l : Line) → Endless p → 0 < length p → length l + length p ≤ 321 → fed (runOf o l) p ≡ longer o (l ++ p)
@@ -127,6 +144,3 @@ module _ (o : Out) (l : Line) (t : List ℕ) (k n e : ℕ) (unanswered : isAnswe
       go : (b : Bool) → ltb e n ≡ b → fed (runOf o l) (take (min (e + 1) n) t) ≡ stepped b (runOf o l) (take e t)
       go true h = let q : min (e + 1) n ≡ e + 1 = omega (arith, ltb-true e n h) in rw q (ends (ltb-true e n h))
       go false h = let q : min (e + 1) n ≡ e = omega (arith, ltb-false e n h, within) in rw q (stays (ltb-false e n h))
-
-  pub turn-used : (0 < min (e + 1) n) × (min (e + 1) n ≤ length t)
-  turn-used = (omega (arith, within), omega (arith, within))

@@ -1,19 +1,18 @@
 -- The end of a run: what is handed back where it has its answer, with no line begun, and after a last line.
 use mathlib.Core.Path.{_≡_, refl, ap, sym, _∙_}
-use mathlib.Core.Bool.{Bool, true, false, _&&_, not, cond, true≢false, false≢true}
-use mathlib.Core.List.{List, [], _∷_, _++_, append-nil}
-use Prim.Native.Nat.{ℕ, zero, suc, _≤_, _<_, min}
+use mathlib.Core.Bool.{Bool, true, false, _&&_, not, false≢true}
+use mathlib.Core.List.{List, [], _∷_}
+use Prim.Native.Nat.{ℕ, _<_, min}
 use native.Mathlib.Omega.{arith}
 use lib.Dec.{ltb}
-use lib.ListN.{length, take, length-take, replicate}
+use lib.ListN.{length, take, length-take}
 use borrow.Author.Tests.{ltb-true, ltb-false}
 use Rattle.lists.specs.Lists.{tab}
 use Rattle.meaning.specs.Line.{Line}
 use Rattle.meaning.specs.Blocks.{World}
 use Rattle.meaning.specs.Record.{Rec}
 use Rattle.meaning.specs.Calls.{Out, out, lineOf, closeOf}
-use Rattle.pieces.specs.Run.{Run, runOf, isAnswered, given, shut, lastLine, ended}
-use Rattle.pieces.specs.Parts.{stepped}
+use Rattle.pieces.specs.Run.{runOf, isAnswered, shut, lastLine, ended}
 use Rattle.closing.specs.declared.Year.{Year}
 use Rattle.closing.specs.Closes.{yearsShown}
 use Rattle.answers.specs.declared.Answer.{Answer}

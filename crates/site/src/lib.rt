@@ -11,9 +11,6 @@ mod packing; // what a call hands back
 
 use answers::Answer;
 use closing::Year;
-pub use packing::close_answer;
-pub use packing::line_answer;
-pub use packing::open_answer;
 use taking::Progress;
 
 pub struct Record {

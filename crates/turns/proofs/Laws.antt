@@ -2,20 +2,19 @@
 use mathlib.Core.Path.{_≡_, refl, ap, sym, _∙_}
 use mathlib.Core.Bool.{Bool, true, false, _&&_, _||_, not, cond, true≢false, false≢true}
 use mathlib.Core.List.{List, [], _∷_, _++_}
-use mathlib.Core.Logic.{_⊎_, inl, inr}
 use Prim.Native.Nat.{ℕ, _+_, _-_, _≤_, _<_, min}
 use native.Mathlib.Omega.{arith}
-use lib.Dec.{ltb, leb}
+use lib.Dec.{ltb}
 use lib.ListN.{length, take, drop, length-take, length-drop, drop-of-length-le, take-append-drop}
 use lib.Seq.{take-all, drop-drop}
-use borrow.Author.Tests.{lt-ltb, le-ltb, ltb-true, ltb-false}
+use borrow.Author.Tests.{ltb-true, ltb-false}
 use Rattle.meaning.specs.Line.{Line}
 use Rattle.meaning.specs.Blocks.{World}
 use Rattle.meaning.specs.Calls.{Out, lineOf}
 use Rattle.pieces.specs.Run.{Run, runOf, isAnswered, given, longer, fed}
 use Rattle.pieces.specs.Parts.{endAt, stepped}
 use Rattle.pieces.proofs.Feeding.{fed-append, kept}
-use Rattle.pieces.proofs.Parts.{end-within, turn-fed, turn-used}
+use Rattle.pieces.proofs.Parts.{end-within, longer-given, longer-held, none-left, rest-is, turn-fed}
 use Rattle.answers.specs.Views.{answerView}
 use Rattle.site.specs.declared.Opened.{Opened}
 use Rattle.site.specs.Views.{view, handsBack}
@@ -49,10 +48,7 @@ part-is bs from to e a p q = go (ltb e from) refl (ltb (length bs) to) refl
         let y : e ≡ to = omega (arith, ltb-false (length bs) to k) in
         rw (x, y)
 
--- ---- what `&piece[f..]` holds
-rest-is : (t : List ℕ) (k : ℕ) → take (length t - k) (drop k t) ≡ drop k t
-rest-is t k = take-all (length t - k) (drop k t) (omega (arith, length-drop k t))
-
+-- ---- the bytes of a turn
 pub limited : (t : List ℕ) (n : ℕ) → n ≡ min 321 (length t) → n ≡ length (take n t)
 limited t n h = omega (arith, h, length-take n t)
 
@@ -78,19 +74,6 @@ not-and false b h = (refl, h)
 empty : (l : List ℕ) → length l ≤ 0 → l ≡ []
 empty [] h = refl
 empty (b ∷ l) h = absurd (omega arith)
-
-none-left : (r : Run) (t : List ℕ) → length t ≤ 0 → fed r t ≡ r
-unfolding fed
-none-left r [] h = refl
-none-left r (b ∷ t) h = absurd (omega arith)
-
-longer-given : (o : Out) (l : Line) → 320 < length l → longer o l ≡ given o l
-unfolding longer
-longer-given o l h = rw (lt-ltb 320 (length l) h)
-
-longer-held : (o : Out) (l : Line) → length l ≤ 320 → longer o l ≡ runOf o l
-unfolding longer
-longer-held o l h = rw (le-ltb 320 (length l) h)
 
 module _ (O : Out) (bs : List ℕ) (f n e : ℕ) (unanswered : isAnswered (O .answer) ≡ false) (limit : n ≡ min 321 (length (drop f bs))) (end : e ≡ endAt (take n (drop f bs))) where
   within : e ≤ n
