@@ -460,7 +460,7 @@ def main():
                 Rd2=Rd
                 bound.append(('r'+n,Rd2,'r'+n)); bound.append(('w'+n,'Val','w'+n))
                 for pn_ in pj: bound.append((fin[pn_],'List %s'%elemD(kind[pn_][2]),pj[pn_]))
-                if c['res']!='unit': bound.append(('is'+n,'Is (%s) r%s (w%s ∷ [])'%(Rt,n,n),'is'+n))
+                if c['res']!='unit': bound.append(('is'+n,'Is %s r%s (w%s ∷ [])'%('(%s)'%Rt if ' ' in Rt else Rt,n,n),'is'+n))
                 ph=c['fact'].replace('{r}','r'+n)
                 for pn_ in pj: ph=ph.replace('{%s}'%pn_,fin[pn_])
                 bound.append(('e'+n,ph,'e'+n))

@@ -199,11 +199,11 @@ module _ {M : Type 1} (𝓤 : URA M) (H : Heap 𝓤) (A : Atoms 𝓤) (W : Given
 
   module _ (C : Calls 𝓤 H) (Λ : Loops 𝓤 H) (fm : FmC 𝓤 H (W .laws) C) (known-line-in : Triple 𝓤 (C #turns·line-in) (LineIn 𝓤 H A mem run)) (known-line : Triple 𝓤 (C #site·Record·line) (Line 𝓤 H A mem run)) (known-next-turn : Triple 𝓤 (C #turns·next-turn) (NextTurn 𝓤 H A mem run)) where
     module _ (l₀ l₁ l₂ l₃ l₄ l₅ l₆ l₇ l₈ l₉ l₁₀ l₁₁ l₁₂ l₁₃ l₁₄ l₁₅ l₁₆ l₁₇ l₁₈ l₁₉ l₂₀ : ℕ) where
-      after-next-turn : (r₁ : RefT (List ℕ)) (w₁ : Val) (is₁ : Is (ShrSlice erased κ₀ u8) r₁ (w₁ ∷ [])) (e₁ : r₁ .now ≡ partOf (piece .now) (turn .from) (turn .to)) (r : Opened) (w : Val) (near′ : List ℕ) (far′ : List ℕ) (slots′ : List ℕ) (daily′ : List ℕ) (readings′ : List Reading) (is : Is (O.the-row) r (w ∷ [])) (e : handsBack r (world near′ far′ slots′ daily′ (seen readings′) (curve .now)) ≡ lineOf (view (turn .«record»)) (r₁ .now) (world (near .now) (far .now) (slots .now) (daily .now) (seen (readings .now)) (curve .now))) (l-near : length near′ ≡ length (near .now)) (l-far : length far′ ≡ length (far .now)) (l-slots : length slots′ ≡ length (slots .now)) (l-daily : length daily′ ≡ length (daily .now)) (l-readings : length readings′ ≡ length (readings .now)) (r₂ : Turn) (w₂ : Val) (is₂ : Is (U.the-row) r₂ (w₂ ∷ [])) (e₂ : r₂ ≡ turnOf r (piece .now) (turn .past)) → Sq W (‵ (flft κ₀ q₀) ∷ ‵ (flft κ₆ q₆) ∷ ‵ (flft κ₅ q₅) ∷ ‵ (flft κ₄ q₄) ∷ ‵ (flft κ₃ q₃) ∷ ‵ (flft κ₂ q₂) ∷ ‵ (flft κ₁ q₁) ∷ ‵ (finally R.the-row (readings .name) readings′) ∷ ‵ (finally u32 (daily .name) daily′) ∷ ‵ (finally u16 (slots .name) slots′) ∷ ‵ (finally u32 (far .name) far′) ∷ ‵ (finally u32 (near .name) near′) ∷ ‵ Own-piece ∷ ‵ Own-curve ∷ ‵ (fat fullShare (sliceTy (tyRef erased mut (pointee (R.the-row .written)))) l₂₀ 0 v-readings) ∷ ‵ (fdies (sliceTy (tyRef erased mut (pointee (R.the-row .written)))) l₂₀) ∷ ‵ (fat fullShare (tyRef erased mut (pointee (R.the-row .written))) l₁₉ 0 (vptr (readings .ptr .0) (readings .ptr .1))) ∷ ‵ (fdies (tyRef erased mut (pointee (R.the-row .written))) l₁₉) ∷ ‵ (fat fullShare (sliceTy (tyRef erased mut (tyInt w32))) l₁₈ 0 v-daily) ∷ ‵ (fdies (sliceTy (tyRef erased mut (tyInt w32))) l₁₈) ∷ ‵ (fat fullShare (tyRef erased mut (tyInt w32)) l₁₇ 0 (vptr (daily .ptr .0) (daily .ptr .1))) ∷ ‵ (fdies (tyRef erased mut (tyInt w32)) l₁₇) ∷ ‵ (fat fullShare (sliceTy (tyRef erased mut (tyInt w16))) l₁₆ 0 v-slots) ∷ ‵ (fdies (sliceTy (tyRef erased mut (tyInt w16))) l₁₆) ∷ ‵ (fat fullShare (tyRef erased mut (tyInt w16)) l₁₅ 0 (vptr (slots .ptr .0) (slots .ptr .1))) ∷ ‵ (fdies (tyRef erased mut (tyInt w16)) l₁₅) ∷ ‵ (fat fullShare (sliceTy (tyRef erased mut (tyInt w32))) l₁₄ 0 v-far) ∷ ‵ (fdies (sliceTy (tyRef erased mut (tyInt w32))) l₁₄) ∷ ‵ (fat fullShare (tyRef erased mut (tyInt w32)) l₁₃ 0 (vptr (far .ptr .0) (far .ptr .1))) ∷ ‵ (fdies (tyRef erased mut (tyInt w32)) l₁₃) ∷ ‵ (fat fullShare (sliceTy (tyRef erased mut (tyInt w32))) l₁₂ 0 v-near) ∷ ‵ (fdies (sliceTy (tyRef erased mut (tyInt w32))) l₁₂) ∷ ‵ (fat fullShare (tyRef erased mut (tyInt w32)) l₁₁ 0 (vptr (near .ptr .0) (near .ptr .1))) ∷ ‵ (fdies (tyRef erased mut (tyInt w32)) l₁₁) ∷ ‵ (fat fullShare tyO l₁₀ 0 w) ∷ ‵ (fdies tyO l₁₀) ∷ ‵ (fat fullShare (sliceTy (tyRef erased imm (tyInt w8))) l₉ 0 w₁) ∷ ‵ (fdies (sliceTy (tyRef erased imm (tyInt w8))) l₉) ∷ ‵ (fat fullShare (sliceTy (tyRef (named 6) imm (tyInt w64))) l₈ 0 v-curve) ∷ ‵ (fdies (sliceTy (tyRef (named 6) imm (tyInt w64))) l₈) ∷ ‵ (fat fullShare (sliceTy (tyRef (named 5) mut (pointee (R.the-row .written)))) l₇ 0 v-readings) ∷ ‵ (fdies (sliceTy (tyRef (named 5) mut (pointee (R.the-row .written)))) l₇) ∷ ‵ (fat fullShare (sliceTy (tyRef (named 4) mut (tyInt w32))) l₆ 0 v-daily) ∷ ‵ (fdies (sliceTy (tyRef (named 4) mut (tyInt w32))) l₆) ∷ ‵ (fat fullShare (sliceTy (tyRef (named 3) mut (tyInt w16))) l₅ 0 v-slots) ∷ ‵ (fdies (sliceTy (tyRef (named 3) mut (tyInt w16))) l₅) ∷ ‵ (fat fullShare (sliceTy (tyRef (named 2) mut (tyInt w32))) l₄ 0 v-far) ∷ ‵ (fdies (sliceTy (tyRef (named 2) mut (tyInt w32))) l₄) ∷ ‵ (fat fullShare (sliceTy (tyRef (named 1) mut (tyInt w32))) l₃ 0 v-near) ∷ ‵ (fdies (sliceTy (tyRef (named 1) mut (tyInt w32))) l₃) ∷ ‵ (fat fullShare (sliceTy (tyRef (named 0) imm (tyInt w8))) l₂ 0 v-piece) ∷ ‵ (fdies (sliceTy (tyRef (named 0) imm (tyInt w8))) l₂) ∷ ‵ (fat fullShare tyU l₁ 0 (LL.val U.the-type U′.the-laws turn)) ∷ ‵ (fdies tyU l₁) ∷ ‵ (fat fullShare tyU l₀ 0 w₂) ∷ ‵ (fdies tyU l₀) ∷ []) (runs C Λ (En l₀ l₁ l₂ l₃ l₄ l₅ l₆ l₇ l₈ l₉ l₁₀ l₁₁ l₁₂ l₁₃ l₁₄ l₁₅ l₁₆ l₁₇ l₁₈ l₁₉ l₂₀) pieces.t-14 (atRet (En l₀ l₁ l₂ l₃ l₄ l₅ l₆ l₇ l₈ l₉ l₁₀ l₁₁ l₁₂ l₁₃ l₁₄ l₁₅ l₁₆ l₁₇ l₁₈ l₁₉ l₂₀) Post))
+      after-next-turn : (r₁ : RefT (List ℕ)) (w₁ : Val) (is₁ : Is (ShrSlice erased κ₀ u8) r₁ (w₁ ∷ [])) (e₁ : r₁ .now ≡ partOf (piece .now) (turn .from) (turn .to)) (r : Opened) (w : Val) (near′ : List ℕ) (far′ : List ℕ) (slots′ : List ℕ) (daily′ : List ℕ) (readings′ : List Reading) (is : Is O.the-row r (w ∷ [])) (e : handsBack r (world near′ far′ slots′ daily′ (seen readings′) (curve .now)) ≡ lineOf (view (turn .«record»)) (r₁ .now) (world (near .now) (far .now) (slots .now) (daily .now) (seen (readings .now)) (curve .now))) (l-near : length near′ ≡ length (near .now)) (l-far : length far′ ≡ length (far .now)) (l-slots : length slots′ ≡ length (slots .now)) (l-daily : length daily′ ≡ length (daily .now)) (l-readings : length readings′ ≡ length (readings .now)) (r₂ : Turn) (w₂ : Val) (is₂ : Is U.the-row r₂ (w₂ ∷ [])) (e₂ : r₂ ≡ turnOf r (piece .now) (turn .past)) → Sq W (‵ (flft κ₀ q₀) ∷ ‵ (flft κ₆ q₆) ∷ ‵ (flft κ₅ q₅) ∷ ‵ (flft κ₄ q₄) ∷ ‵ (flft κ₃ q₃) ∷ ‵ (flft κ₂ q₂) ∷ ‵ (flft κ₁ q₁) ∷ ‵ (finally R.the-row (readings .name) readings′) ∷ ‵ (finally u32 (daily .name) daily′) ∷ ‵ (finally u16 (slots .name) slots′) ∷ ‵ (finally u32 (far .name) far′) ∷ ‵ (finally u32 (near .name) near′) ∷ ‵ Own-piece ∷ ‵ Own-curve ∷ ‵ (fat fullShare (sliceTy (tyRef erased mut (pointee (R.the-row .written)))) l₂₀ 0 v-readings) ∷ ‵ (fdies (sliceTy (tyRef erased mut (pointee (R.the-row .written)))) l₂₀) ∷ ‵ (fat fullShare (tyRef erased mut (pointee (R.the-row .written))) l₁₉ 0 (vptr (readings .ptr .0) (readings .ptr .1))) ∷ ‵ (fdies (tyRef erased mut (pointee (R.the-row .written))) l₁₉) ∷ ‵ (fat fullShare (sliceTy (tyRef erased mut (tyInt w32))) l₁₈ 0 v-daily) ∷ ‵ (fdies (sliceTy (tyRef erased mut (tyInt w32))) l₁₈) ∷ ‵ (fat fullShare (tyRef erased mut (tyInt w32)) l₁₇ 0 (vptr (daily .ptr .0) (daily .ptr .1))) ∷ ‵ (fdies (tyRef erased mut (tyInt w32)) l₁₇) ∷ ‵ (fat fullShare (sliceTy (tyRef erased mut (tyInt w16))) l₁₆ 0 v-slots) ∷ ‵ (fdies (sliceTy (tyRef erased mut (tyInt w16))) l₁₆) ∷ ‵ (fat fullShare (tyRef erased mut (tyInt w16)) l₁₅ 0 (vptr (slots .ptr .0) (slots .ptr .1))) ∷ ‵ (fdies (tyRef erased mut (tyInt w16)) l₁₅) ∷ ‵ (fat fullShare (sliceTy (tyRef erased mut (tyInt w32))) l₁₄ 0 v-far) ∷ ‵ (fdies (sliceTy (tyRef erased mut (tyInt w32))) l₁₄) ∷ ‵ (fat fullShare (tyRef erased mut (tyInt w32)) l₁₃ 0 (vptr (far .ptr .0) (far .ptr .1))) ∷ ‵ (fdies (tyRef erased mut (tyInt w32)) l₁₃) ∷ ‵ (fat fullShare (sliceTy (tyRef erased mut (tyInt w32))) l₁₂ 0 v-near) ∷ ‵ (fdies (sliceTy (tyRef erased mut (tyInt w32))) l₁₂) ∷ ‵ (fat fullShare (tyRef erased mut (tyInt w32)) l₁₁ 0 (vptr (near .ptr .0) (near .ptr .1))) ∷ ‵ (fdies (tyRef erased mut (tyInt w32)) l₁₁) ∷ ‵ (fat fullShare tyO l₁₀ 0 w) ∷ ‵ (fdies tyO l₁₀) ∷ ‵ (fat fullShare (sliceTy (tyRef erased imm (tyInt w8))) l₉ 0 w₁) ∷ ‵ (fdies (sliceTy (tyRef erased imm (tyInt w8))) l₉) ∷ ‵ (fat fullShare (sliceTy (tyRef (named 6) imm (tyInt w64))) l₈ 0 v-curve) ∷ ‵ (fdies (sliceTy (tyRef (named 6) imm (tyInt w64))) l₈) ∷ ‵ (fat fullShare (sliceTy (tyRef (named 5) mut (pointee (R.the-row .written)))) l₇ 0 v-readings) ∷ ‵ (fdies (sliceTy (tyRef (named 5) mut (pointee (R.the-row .written)))) l₇) ∷ ‵ (fat fullShare (sliceTy (tyRef (named 4) mut (tyInt w32))) l₆ 0 v-daily) ∷ ‵ (fdies (sliceTy (tyRef (named 4) mut (tyInt w32))) l₆) ∷ ‵ (fat fullShare (sliceTy (tyRef (named 3) mut (tyInt w16))) l₅ 0 v-slots) ∷ ‵ (fdies (sliceTy (tyRef (named 3) mut (tyInt w16))) l₅) ∷ ‵ (fat fullShare (sliceTy (tyRef (named 2) mut (tyInt w32))) l₄ 0 v-far) ∷ ‵ (fdies (sliceTy (tyRef (named 2) mut (tyInt w32))) l₄) ∷ ‵ (fat fullShare (sliceTy (tyRef (named 1) mut (tyInt w32))) l₃ 0 v-near) ∷ ‵ (fdies (sliceTy (tyRef (named 1) mut (tyInt w32))) l₃) ∷ ‵ (fat fullShare (sliceTy (tyRef (named 0) imm (tyInt w8))) l₂ 0 v-piece) ∷ ‵ (fdies (sliceTy (tyRef (named 0) imm (tyInt w8))) l₂) ∷ ‵ (fat fullShare tyU l₁ 0 (LL.val U.the-type U′.the-laws turn)) ∷ ‵ (fdies tyU l₁) ∷ ‵ (fat fullShare tyU l₀ 0 w₂) ∷ ‵ (fdies tyU l₀) ∷ []) (runs C Λ (En l₀ l₁ l₂ l₃ l₄ l₅ l₆ l₇ l₈ l₉ l₁₀ l₁₁ l₁₂ l₁₃ l₁₄ l₁₅ l₁₆ l₁₇ l₁₈ l₁₉ l₂₀) pieces.t-14 (atRet (En l₀ l₁ l₂ l₃ l₄ l₅ l₆ l₇ l₈ l₉ l₁₀ l₁₁ l₁₂ l₁₃ l₁₄ l₁₅ l₁₆ l₁₇ l₁₈ l₁₉ l₂₀) Post))
       after-next-turn r₁ w₁ is₁ e₁ r w near′ far′ slots′ daily′ readings′ is e l-near l-far l-slots l-daily l-readings r₂ w₂ is₂ e₂ =
           returns ! (look ! 54 refl) $ keep ! (54 ∷ 55 ∷ 52 ∷ 53 ∷ 50 ∷ 51 ∷ 48 ∷ 49 ∷ 46 ∷ 47 ∷ 44 ∷ 45 ∷ 42 ∷ 43 ∷ 40 ∷ 41 ∷ 38 ∷ 39 ∷ 36 ∷ 37 ∷ 34 ∷ 35 ∷ 32 ∷ 33 ∷ 30 ∷ 31 ∷ 28 ∷ 29 ∷ 26 ∷ 27 ∷ 24 ∷ 25 ∷ 22 ∷ 23 ∷ 20 ∷ 21 ∷ 18 ∷ 19 ∷ 16 ∷ 17 ∷ 14 ∷ 15 ∷ 0 ∷ 6 ∷ 5 ∷ 4 ∷ 3 ∷ 2 ∷ 1 ∷ 11 ∷ 10 ∷ 9 ∷ 8 ∷ 7 ∷ 12 ∷ 13 ∷ []) $ left l₀ l₁ l₂ l₃ l₄ l₅ l₆ l₇ l₈ l₉ l₁₀ l₁₁ l₁₂ l₁₃ l₁₄ l₁₅ l₁₆ l₁₇ l₁₈ l₁₉ l₂₀ w w₁ r₁ r r₂ w₂ near′ far′ slots′ daily′ readings′ is₂ e₁ e e₂ l-near l-far l-slots l-daily l-readings
 
-      after-line : (r₁ : RefT (List ℕ)) (w₁ : Val) (is₁ : Is (ShrSlice erased κ₀ u8) r₁ (w₁ ∷ [])) (e₁ : r₁ .now ≡ partOf (piece .now) (turn .from) (turn .to)) (r : Opened) (w : Val) (near′ : List ℕ) (far′ : List ℕ) (slots′ : List ℕ) (daily′ : List ℕ) (readings′ : List Reading) (is : Is (O.the-row) r (w ∷ [])) (e : handsBack r (world near′ far′ slots′ daily′ (seen readings′) (curve .now)) ≡ lineOf (view (turn .«record»)) (r₁ .now) (world (near .now) (far .now) (slots .now) (daily .now) (seen (readings .now)) (curve .now))) (l-near : length near′ ≡ length (near .now)) (l-far : length far′ ≡ length (far .now)) (l-slots : length slots′ ≡ length (slots .now)) (l-daily : length daily′ ≡ length (daily .now)) (l-readings : length readings′ ≡ length (readings .now)) → Sq W (‵ (flft κ₆ q₆) ∷ ‵ (flft κ₅ q₅) ∷ ‵ (flft κ₄ q₄) ∷ ‵ (flft κ₃ q₃) ∷ ‵ (flft κ₂ q₂) ∷ ‵ (flft κ₁ q₁) ∷ ‵ (flft κ₀ q₀) ∷ ‵ (finally R.the-row (readings .name) readings′) ∷ ‵ (finally u32 (daily .name) daily′) ∷ ‵ (finally u16 (slots .name) slots′) ∷ ‵ (finally u32 (far .name) far′) ∷ ‵ (finally u32 (near .name) near′) ∷ ‵ Own-piece ∷ ‵ Own-piece ∷ ‵ Own-curve ∷ ‵ (fat fullShare (sliceTy (tyRef erased mut (pointee (R.the-row .written)))) l₂₀ 0 v-readings) ∷ ‵ (fdies (sliceTy (tyRef erased mut (pointee (R.the-row .written)))) l₂₀) ∷ ‵ (fat fullShare (tyRef erased mut (pointee (R.the-row .written))) l₁₉ 0 (vptr (readings .ptr .0) (readings .ptr .1))) ∷ ‵ (fdies (tyRef erased mut (pointee (R.the-row .written))) l₁₉) ∷ ‵ (fat fullShare (sliceTy (tyRef erased mut (tyInt w32))) l₁₈ 0 v-daily) ∷ ‵ (fdies (sliceTy (tyRef erased mut (tyInt w32))) l₁₈) ∷ ‵ (fat fullShare (tyRef erased mut (tyInt w32)) l₁₇ 0 (vptr (daily .ptr .0) (daily .ptr .1))) ∷ ‵ (fdies (tyRef erased mut (tyInt w32)) l₁₇) ∷ ‵ (fat fullShare (sliceTy (tyRef erased mut (tyInt w16))) l₁₆ 0 v-slots) ∷ ‵ (fdies (sliceTy (tyRef erased mut (tyInt w16))) l₁₆) ∷ ‵ (fat fullShare (tyRef erased mut (tyInt w16)) l₁₅ 0 (vptr (slots .ptr .0) (slots .ptr .1))) ∷ ‵ (fdies (tyRef erased mut (tyInt w16)) l₁₅) ∷ ‵ (fat fullShare (sliceTy (tyRef erased mut (tyInt w32))) l₁₄ 0 v-far) ∷ ‵ (fdies (sliceTy (tyRef erased mut (tyInt w32))) l₁₄) ∷ ‵ (fat fullShare (tyRef erased mut (tyInt w32)) l₁₃ 0 (vptr (far .ptr .0) (far .ptr .1))) ∷ ‵ (fdies (tyRef erased mut (tyInt w32)) l₁₃) ∷ ‵ (fat fullShare (sliceTy (tyRef erased mut (tyInt w32))) l₁₂ 0 v-near) ∷ ‵ (fdies (sliceTy (tyRef erased mut (tyInt w32))) l₁₂) ∷ ‵ (fat fullShare (tyRef erased mut (tyInt w32)) l₁₁ 0 (vptr (near .ptr .0) (near .ptr .1))) ∷ ‵ (fdies (tyRef erased mut (tyInt w32)) l₁₁) ∷ ‵ (fat fullShare tyO l₁₀ 0 w) ∷ ‵ (fdies tyO l₁₀) ∷ ‵ (fat fullShare (sliceTy (tyRef erased imm (tyInt w8))) l₉ 0 w₁) ∷ ‵ (fdies (sliceTy (tyRef erased imm (tyInt w8))) l₉) ∷ ‵ (fat fullShare (sliceTy (tyRef (named 6) imm (tyInt w64))) l₈ 0 v-curve) ∷ ‵ (fdies (sliceTy (tyRef (named 6) imm (tyInt w64))) l₈) ∷ ‵ (fat fullShare (sliceTy (tyRef (named 5) mut (pointee (R.the-row .written)))) l₇ 0 v-readings) ∷ ‵ (fdies (sliceTy (tyRef (named 5) mut (pointee (R.the-row .written)))) l₇) ∷ ‵ (fat fullShare (sliceTy (tyRef (named 4) mut (tyInt w32))) l₆ 0 v-daily) ∷ ‵ (fdies (sliceTy (tyRef (named 4) mut (tyInt w32))) l₆) ∷ ‵ (fat fullShare (sliceTy (tyRef (named 3) mut (tyInt w16))) l₅ 0 v-slots) ∷ ‵ (fdies (sliceTy (tyRef (named 3) mut (tyInt w16))) l₅) ∷ ‵ (fat fullShare (sliceTy (tyRef (named 2) mut (tyInt w32))) l₄ 0 v-far) ∷ ‵ (fdies (sliceTy (tyRef (named 2) mut (tyInt w32))) l₄) ∷ ‵ (fat fullShare (sliceTy (tyRef (named 1) mut (tyInt w32))) l₃ 0 v-near) ∷ ‵ (fdies (sliceTy (tyRef (named 1) mut (tyInt w32))) l₃) ∷ ‵ (fat fullShare (sliceTy (tyRef (named 0) imm (tyInt w8))) l₂ 0 v-piece) ∷ ‵ (fdies (sliceTy (tyRef (named 0) imm (tyInt w8))) l₂) ∷ ‵ (fat fullShare tyU l₁ 0 (LL.val U.the-type U′.the-laws turn)) ∷ ‵ (fdies tyU l₁) ∷ ‵ (froom tyU l₀ 0) ∷ ‵ (fdies tyU l₀) ∷ []) (runs C Λ (En l₀ l₁ l₂ l₃ l₄ l₅ l₆ l₇ l₈ l₉ l₁₀ l₁₁ l₁₂ l₁₃ l₁₄ l₁₅ l₁₆ l₁₇ l₁₈ l₁₉ l₂₀) pieces.t-13 (atRet (En l₀ l₁ l₂ l₃ l₄ l₅ l₆ l₇ l₈ l₉ l₁₀ l₁₁ l₁₂ l₁₃ l₁₄ l₁₅ l₁₆ l₁₇ l₁₈ l₁₉ l₂₀) Post))
+      after-line : (r₁ : RefT (List ℕ)) (w₁ : Val) (is₁ : Is (ShrSlice erased κ₀ u8) r₁ (w₁ ∷ [])) (e₁ : r₁ .now ≡ partOf (piece .now) (turn .from) (turn .to)) (r : Opened) (w : Val) (near′ : List ℕ) (far′ : List ℕ) (slots′ : List ℕ) (daily′ : List ℕ) (readings′ : List Reading) (is : Is O.the-row r (w ∷ [])) (e : handsBack r (world near′ far′ slots′ daily′ (seen readings′) (curve .now)) ≡ lineOf (view (turn .«record»)) (r₁ .now) (world (near .now) (far .now) (slots .now) (daily .now) (seen (readings .now)) (curve .now))) (l-near : length near′ ≡ length (near .now)) (l-far : length far′ ≡ length (far .now)) (l-slots : length slots′ ≡ length (slots .now)) (l-daily : length daily′ ≡ length (daily .now)) (l-readings : length readings′ ≡ length (readings .now)) → Sq W (‵ (flft κ₆ q₆) ∷ ‵ (flft κ₅ q₅) ∷ ‵ (flft κ₄ q₄) ∷ ‵ (flft κ₃ q₃) ∷ ‵ (flft κ₂ q₂) ∷ ‵ (flft κ₁ q₁) ∷ ‵ (flft κ₀ q₀) ∷ ‵ (finally R.the-row (readings .name) readings′) ∷ ‵ (finally u32 (daily .name) daily′) ∷ ‵ (finally u16 (slots .name) slots′) ∷ ‵ (finally u32 (far .name) far′) ∷ ‵ (finally u32 (near .name) near′) ∷ ‵ Own-piece ∷ ‵ Own-piece ∷ ‵ Own-curve ∷ ‵ (fat fullShare (sliceTy (tyRef erased mut (pointee (R.the-row .written)))) l₂₀ 0 v-readings) ∷ ‵ (fdies (sliceTy (tyRef erased mut (pointee (R.the-row .written)))) l₂₀) ∷ ‵ (fat fullShare (tyRef erased mut (pointee (R.the-row .written))) l₁₉ 0 (vptr (readings .ptr .0) (readings .ptr .1))) ∷ ‵ (fdies (tyRef erased mut (pointee (R.the-row .written))) l₁₉) ∷ ‵ (fat fullShare (sliceTy (tyRef erased mut (tyInt w32))) l₁₈ 0 v-daily) ∷ ‵ (fdies (sliceTy (tyRef erased mut (tyInt w32))) l₁₈) ∷ ‵ (fat fullShare (tyRef erased mut (tyInt w32)) l₁₇ 0 (vptr (daily .ptr .0) (daily .ptr .1))) ∷ ‵ (fdies (tyRef erased mut (tyInt w32)) l₁₇) ∷ ‵ (fat fullShare (sliceTy (tyRef erased mut (tyInt w16))) l₁₆ 0 v-slots) ∷ ‵ (fdies (sliceTy (tyRef erased mut (tyInt w16))) l₁₆) ∷ ‵ (fat fullShare (tyRef erased mut (tyInt w16)) l₁₅ 0 (vptr (slots .ptr .0) (slots .ptr .1))) ∷ ‵ (fdies (tyRef erased mut (tyInt w16)) l₁₅) ∷ ‵ (fat fullShare (sliceTy (tyRef erased mut (tyInt w32))) l₁₄ 0 v-far) ∷ ‵ (fdies (sliceTy (tyRef erased mut (tyInt w32))) l₁₄) ∷ ‵ (fat fullShare (tyRef erased mut (tyInt w32)) l₁₃ 0 (vptr (far .ptr .0) (far .ptr .1))) ∷ ‵ (fdies (tyRef erased mut (tyInt w32)) l₁₃) ∷ ‵ (fat fullShare (sliceTy (tyRef erased mut (tyInt w32))) l₁₂ 0 v-near) ∷ ‵ (fdies (sliceTy (tyRef erased mut (tyInt w32))) l₁₂) ∷ ‵ (fat fullShare (tyRef erased mut (tyInt w32)) l₁₁ 0 (vptr (near .ptr .0) (near .ptr .1))) ∷ ‵ (fdies (tyRef erased mut (tyInt w32)) l₁₁) ∷ ‵ (fat fullShare tyO l₁₀ 0 w) ∷ ‵ (fdies tyO l₁₀) ∷ ‵ (fat fullShare (sliceTy (tyRef erased imm (tyInt w8))) l₉ 0 w₁) ∷ ‵ (fdies (sliceTy (tyRef erased imm (tyInt w8))) l₉) ∷ ‵ (fat fullShare (sliceTy (tyRef (named 6) imm (tyInt w64))) l₈ 0 v-curve) ∷ ‵ (fdies (sliceTy (tyRef (named 6) imm (tyInt w64))) l₈) ∷ ‵ (fat fullShare (sliceTy (tyRef (named 5) mut (pointee (R.the-row .written)))) l₇ 0 v-readings) ∷ ‵ (fdies (sliceTy (tyRef (named 5) mut (pointee (R.the-row .written)))) l₇) ∷ ‵ (fat fullShare (sliceTy (tyRef (named 4) mut (tyInt w32))) l₆ 0 v-daily) ∷ ‵ (fdies (sliceTy (tyRef (named 4) mut (tyInt w32))) l₆) ∷ ‵ (fat fullShare (sliceTy (tyRef (named 3) mut (tyInt w16))) l₅ 0 v-slots) ∷ ‵ (fdies (sliceTy (tyRef (named 3) mut (tyInt w16))) l₅) ∷ ‵ (fat fullShare (sliceTy (tyRef (named 2) mut (tyInt w32))) l₄ 0 v-far) ∷ ‵ (fdies (sliceTy (tyRef (named 2) mut (tyInt w32))) l₄) ∷ ‵ (fat fullShare (sliceTy (tyRef (named 1) mut (tyInt w32))) l₃ 0 v-near) ∷ ‵ (fdies (sliceTy (tyRef (named 1) mut (tyInt w32))) l₃) ∷ ‵ (fat fullShare (sliceTy (tyRef (named 0) imm (tyInt w8))) l₂ 0 v-piece) ∷ ‵ (fdies (sliceTy (tyRef (named 0) imm (tyInt w8))) l₂) ∷ ‵ (fat fullShare tyU l₁ 0 (LL.val U.the-type U′.the-laws turn)) ∷ ‵ (fdies tyU l₁) ∷ ‵ (froom tyU l₀ 0) ∷ ‵ (fdies tyU l₀) ∷ []) (runs C Λ (En l₀ l₁ l₂ l₃ l₄ l₅ l₆ l₇ l₈ l₉ l₁₀ l₁₁ l₁₂ l₁₃ l₁₄ l₁₅ l₁₆ l₁₇ l₁₈ l₁₉ l₂₀) pieces.t-13 (atRet (En l₀ l₁ l₂ l₃ l₄ l₅ l₆ l₇ l₈ l₉ l₁₀ l₁₁ l₁₂ l₁₃ l₁₄ l₁₅ l₁₆ l₁₇ l₁₈ l₁₉ l₂₀) Post))
       after-line r₁ w₁ is₁ e₁ r w near′ far′ slots′ daily′ readings′ is e l-near l-far l-slots l-daily l-readings =
           -- `next_turn`
           move ! (6 ∷ 13 ∷ []) $ group ! 2 $ use1 W (raw (NextTurn 𝓤 H A mem run .pre (to-next-turn r w))) (goes-next-turn r w is) $

@@ -194,11 +194,11 @@ module _ {M : Type 1} (𝓤 : URA M) (H : Heap 𝓤) (A : Atoms 𝓤) (W : Given
 
   module _ (C : Calls 𝓤 H) (Λ : Loops 𝓤 H) (fm : FmC 𝓤 H (W .laws) C) (known-give-lines : Triple 𝓤 (C #given-lines·give-lines) (GiveLines 𝓤 H A mem run)) (known-with-turn : Triple 𝓤 (C #own-lines·with-turn) (Packed 𝓤 H A mem run)) where
     module _ (l₀ l₁ l₂ l₃ l₄ l₅ l₆ l₇ l₈ l₉ l₁₀ l₁₁ l₁₂ l₁₃ l₁₄ l₁₅ l₁₆ l₁₇ l₁₈ l₁₉ l₂₀ l₂₁ : ℕ) where
-      after-with-turn : (r : Turn) (w : Val) (near′ : List ℕ) (far′ : List ℕ) (slots′ : List ℕ) (daily′ : List ℕ) (readings′ : List Reading) (is : Is (U.the-row) r (w ∷ [])) (e : turnView r (piece .now) (world near′ far′ slots′ daily′ (seen readings′) (curve .now)) ≡ fed (runOf (handsBack opened (world (near .now) (far .now) (slots .now) (daily .now) (seen readings) (curve .now))) []) (piece .now)) (is-own : Is (Array R.the-row 600) readings′ (array-vals (LL.vals R.the-type R′.the-laws) readings′)) (l-near : length near′ ≡ length (near .now)) (l-far : length far′ ≡ length (far .now)) (l-slots : length slots′ ≡ length (slots .now)) (l-daily : length daily′ ≡ length (daily .now)) (r₂ : KeptTurn) (w₂ : Val) (is₂ : Is (K.the-row) r₂ (w₂ ∷ [])) (e₂ : r₂ ≡ turnWith r readings′) → Sq W (‵ (fat fullShare (tyArray tyR 600) l₉ 0 (only (array-vals (LL.vals R.the-type R′.the-laws) readings′))) ∷ ‵ (flft κ₅ q₅) ∷ ‵ (flft κ₄ q₄) ∷ ‵ (flft κ₃ q₃) ∷ ‵ (flft κ₂ q₂) ∷ ‵ (flft κ₁ q₁) ∷ ‵ (flft κ₀ q₀) ∷ ‵ (finally u32 (daily .name) daily′) ∷ ‵ (finally u16 (slots .name) slots′) ∷ ‵ (finally u32 (far .name) far′) ∷ ‵ (finally u32 (near .name) near′) ∷ ‵ Own-piece ∷ ‵ Own-curve ∷ ‵ (fat fullShare (tyArray tyR 600) l₂₁ 0 (only (array-vals (LL.vals R.the-type R′.the-laws) readings′))) ∷ ‵ (fdies (tyArray tyR 600) l₂₁) ∷ ‵ (fat fullShare (sliceTy (tyRef erased mut (pointee (R.the-row .written)))) l₂₀ 0 (sliceVal (l₉, 0) 600)) ∷ ‵ (fdies (sliceTy (tyRef erased mut (pointee (R.the-row .written)))) l₂₀) ∷ ‵ (fat fullShare (tyRef erased mut (tyArray (pointee (R.the-row .written)) 600)) l₁₉ 0 (vptr l₉ 0)) ∷ ‵ (fdies (tyRef erased mut (tyArray (pointee (R.the-row .written)) 600)) l₁₉) ∷ ‵ (fat fullShare (sliceTy (tyRef erased mut (tyInt w32))) l₁₈ 0 v-daily) ∷ ‵ (fdies (sliceTy (tyRef erased mut (tyInt w32))) l₁₈) ∷ ‵ (fat fullShare (tyRef erased mut (tyInt w32)) l₁₇ 0 (vptr (daily .ptr .0) (daily .ptr .1))) ∷ ‵ (fdies (tyRef erased mut (tyInt w32)) l₁₇) ∷ ‵ (fat fullShare (sliceTy (tyRef erased mut (tyInt w16))) l₁₆ 0 v-slots) ∷ ‵ (fdies (sliceTy (tyRef erased mut (tyInt w16))) l₁₆) ∷ ‵ (fat fullShare (tyRef erased mut (tyInt w16)) l₁₅ 0 (vptr (slots .ptr .0) (slots .ptr .1))) ∷ ‵ (fdies (tyRef erased mut (tyInt w16)) l₁₅) ∷ ‵ (fat fullShare (sliceTy (tyRef erased mut (tyInt w32))) l₁₄ 0 v-far) ∷ ‵ (fdies (sliceTy (tyRef erased mut (tyInt w32))) l₁₄) ∷ ‵ (fat fullShare (tyRef erased mut (tyInt w32)) l₁₃ 0 (vptr (far .ptr .0) (far .ptr .1))) ∷ ‵ (fdies (tyRef erased mut (tyInt w32)) l₁₃) ∷ ‵ (fat fullShare (sliceTy (tyRef erased mut (tyInt w32))) l₁₂ 0 v-near) ∷ ‵ (fdies (sliceTy (tyRef erased mut (tyInt w32))) l₁₂) ∷ ‵ (fat fullShare (tyRef erased mut (tyInt w32)) l₁₁ 0 (vptr (near .ptr .0) (near .ptr .1))) ∷ ‵ (fdies (tyRef erased mut (tyInt w32)) l₁₁) ∷ ‵ (fat fullShare tyU l₁₀ 0 w) ∷ ‵ (fdies tyU l₁₀) ∷ ‵ (fdies (tyArray tyR 600) l₉) ∷ ‵ (fat fullShare (sliceTy (tyRef (named 5) imm (tyInt w64))) l₈ 0 v-curve) ∷ ‵ (fdies (sliceTy (tyRef (named 5) imm (tyInt w64))) l₈) ∷ ‵ (fat fullShare (tyArray tyR 600) l₇ 0 (only (array-vals (LL.vals R.the-type R′.the-laws) readings))) ∷ ‵ (fdies (tyArray tyR 600) l₇) ∷ ‵ (fat fullShare (sliceTy (tyRef (named 4) mut (tyInt w32))) l₆ 0 v-daily) ∷ ‵ (fdies (sliceTy (tyRef (named 4) mut (tyInt w32))) l₆) ∷ ‵ (fat fullShare (sliceTy (tyRef (named 3) mut (tyInt w16))) l₅ 0 v-slots) ∷ ‵ (fdies (sliceTy (tyRef (named 3) mut (tyInt w16))) l₅) ∷ ‵ (fat fullShare (sliceTy (tyRef (named 2) mut (tyInt w32))) l₄ 0 v-far) ∷ ‵ (fdies (sliceTy (tyRef (named 2) mut (tyInt w32))) l₄) ∷ ‵ (fat fullShare (sliceTy (tyRef (named 1) mut (tyInt w32))) l₃ 0 v-near) ∷ ‵ (fdies (sliceTy (tyRef (named 1) mut (tyInt w32))) l₃) ∷ ‵ (fat fullShare (sliceTy (tyRef (named 0) imm (tyInt w8))) l₂ 0 v-piece) ∷ ‵ (fdies (sliceTy (tyRef (named 0) imm (tyInt w8))) l₂) ∷ ‵ (fat fullShare tyO l₁ 0 (LL.val O.the-type O′.the-laws opened)) ∷ ‵ (fdies tyO l₁) ∷ ‵ (fat fullShare tyK l₀ 0 w₂) ∷ ‵ (fdies tyK l₀) ∷ []) (runs C Λ (En l₀ l₁ l₂ l₃ l₄ l₅ l₆ l₇ l₈ l₉ l₁₀ l₁₁ l₁₂ l₁₃ l₁₄ l₁₅ l₁₆ l₁₇ l₁₈ l₁₉ l₂₀ l₂₁) pieces.t-15 (atRet (En l₀ l₁ l₂ l₃ l₄ l₅ l₆ l₇ l₈ l₉ l₁₀ l₁₁ l₁₂ l₁₃ l₁₄ l₁₅ l₁₆ l₁₇ l₁₈ l₁₉ l₂₀ l₂₁) Post))
+      after-with-turn : (r : Turn) (w : Val) (near′ : List ℕ) (far′ : List ℕ) (slots′ : List ℕ) (daily′ : List ℕ) (readings′ : List Reading) (is : Is U.the-row r (w ∷ [])) (e : turnView r (piece .now) (world near′ far′ slots′ daily′ (seen readings′) (curve .now)) ≡ fed (runOf (handsBack opened (world (near .now) (far .now) (slots .now) (daily .now) (seen readings) (curve .now))) []) (piece .now)) (is-own : Is (Array R.the-row 600) readings′ (array-vals (LL.vals R.the-type R′.the-laws) readings′)) (l-near : length near′ ≡ length (near .now)) (l-far : length far′ ≡ length (far .now)) (l-slots : length slots′ ≡ length (slots .now)) (l-daily : length daily′ ≡ length (daily .now)) (r₂ : KeptTurn) (w₂ : Val) (is₂ : Is K.the-row r₂ (w₂ ∷ [])) (e₂ : r₂ ≡ turnWith r readings′) → Sq W (‵ (fat fullShare (tyArray tyR 600) l₉ 0 (only (array-vals (LL.vals R.the-type R′.the-laws) readings′))) ∷ ‵ (flft κ₅ q₅) ∷ ‵ (flft κ₄ q₄) ∷ ‵ (flft κ₃ q₃) ∷ ‵ (flft κ₂ q₂) ∷ ‵ (flft κ₁ q₁) ∷ ‵ (flft κ₀ q₀) ∷ ‵ (finally u32 (daily .name) daily′) ∷ ‵ (finally u16 (slots .name) slots′) ∷ ‵ (finally u32 (far .name) far′) ∷ ‵ (finally u32 (near .name) near′) ∷ ‵ Own-piece ∷ ‵ Own-curve ∷ ‵ (fat fullShare (tyArray tyR 600) l₂₁ 0 (only (array-vals (LL.vals R.the-type R′.the-laws) readings′))) ∷ ‵ (fdies (tyArray tyR 600) l₂₁) ∷ ‵ (fat fullShare (sliceTy (tyRef erased mut (pointee (R.the-row .written)))) l₂₀ 0 (sliceVal (l₉, 0) 600)) ∷ ‵ (fdies (sliceTy (tyRef erased mut (pointee (R.the-row .written)))) l₂₀) ∷ ‵ (fat fullShare (tyRef erased mut (tyArray (pointee (R.the-row .written)) 600)) l₁₉ 0 (vptr l₉ 0)) ∷ ‵ (fdies (tyRef erased mut (tyArray (pointee (R.the-row .written)) 600)) l₁₉) ∷ ‵ (fat fullShare (sliceTy (tyRef erased mut (tyInt w32))) l₁₈ 0 v-daily) ∷ ‵ (fdies (sliceTy (tyRef erased mut (tyInt w32))) l₁₈) ∷ ‵ (fat fullShare (tyRef erased mut (tyInt w32)) l₁₇ 0 (vptr (daily .ptr .0) (daily .ptr .1))) ∷ ‵ (fdies (tyRef erased mut (tyInt w32)) l₁₇) ∷ ‵ (fat fullShare (sliceTy (tyRef erased mut (tyInt w16))) l₁₆ 0 v-slots) ∷ ‵ (fdies (sliceTy (tyRef erased mut (tyInt w16))) l₁₆) ∷ ‵ (fat fullShare (tyRef erased mut (tyInt w16)) l₁₅ 0 (vptr (slots .ptr .0) (slots .ptr .1))) ∷ ‵ (fdies (tyRef erased mut (tyInt w16)) l₁₅) ∷ ‵ (fat fullShare (sliceTy (tyRef erased mut (tyInt w32))) l₁₄ 0 v-far) ∷ ‵ (fdies (sliceTy (tyRef erased mut (tyInt w32))) l₁₄) ∷ ‵ (fat fullShare (tyRef erased mut (tyInt w32)) l₁₃ 0 (vptr (far .ptr .0) (far .ptr .1))) ∷ ‵ (fdies (tyRef erased mut (tyInt w32)) l₁₃) ∷ ‵ (fat fullShare (sliceTy (tyRef erased mut (tyInt w32))) l₁₂ 0 v-near) ∷ ‵ (fdies (sliceTy (tyRef erased mut (tyInt w32))) l₁₂) ∷ ‵ (fat fullShare (tyRef erased mut (tyInt w32)) l₁₁ 0 (vptr (near .ptr .0) (near .ptr .1))) ∷ ‵ (fdies (tyRef erased mut (tyInt w32)) l₁₁) ∷ ‵ (fat fullShare tyU l₁₀ 0 w) ∷ ‵ (fdies tyU l₁₀) ∷ ‵ (fdies (tyArray tyR 600) l₉) ∷ ‵ (fat fullShare (sliceTy (tyRef (named 5) imm (tyInt w64))) l₈ 0 v-curve) ∷ ‵ (fdies (sliceTy (tyRef (named 5) imm (tyInt w64))) l₈) ∷ ‵ (fat fullShare (tyArray tyR 600) l₇ 0 (only (array-vals (LL.vals R.the-type R′.the-laws) readings))) ∷ ‵ (fdies (tyArray tyR 600) l₇) ∷ ‵ (fat fullShare (sliceTy (tyRef (named 4) mut (tyInt w32))) l₆ 0 v-daily) ∷ ‵ (fdies (sliceTy (tyRef (named 4) mut (tyInt w32))) l₆) ∷ ‵ (fat fullShare (sliceTy (tyRef (named 3) mut (tyInt w16))) l₅ 0 v-slots) ∷ ‵ (fdies (sliceTy (tyRef (named 3) mut (tyInt w16))) l₅) ∷ ‵ (fat fullShare (sliceTy (tyRef (named 2) mut (tyInt w32))) l₄ 0 v-far) ∷ ‵ (fdies (sliceTy (tyRef (named 2) mut (tyInt w32))) l₄) ∷ ‵ (fat fullShare (sliceTy (tyRef (named 1) mut (tyInt w32))) l₃ 0 v-near) ∷ ‵ (fdies (sliceTy (tyRef (named 1) mut (tyInt w32))) l₃) ∷ ‵ (fat fullShare (sliceTy (tyRef (named 0) imm (tyInt w8))) l₂ 0 v-piece) ∷ ‵ (fdies (sliceTy (tyRef (named 0) imm (tyInt w8))) l₂) ∷ ‵ (fat fullShare tyO l₁ 0 (LL.val O.the-type O′.the-laws opened)) ∷ ‵ (fdies tyO l₁) ∷ ‵ (fat fullShare tyK l₀ 0 w₂) ∷ ‵ (fdies tyK l₀) ∷ []) (runs C Λ (En l₀ l₁ l₂ l₃ l₄ l₅ l₆ l₇ l₈ l₉ l₁₀ l₁₁ l₁₂ l₁₃ l₁₄ l₁₅ l₁₆ l₁₇ l₁₈ l₁₉ l₂₀ l₂₁) pieces.t-15 (atRet (En l₀ l₁ l₂ l₃ l₄ l₅ l₆ l₇ l₈ l₉ l₁₀ l₁₁ l₁₂ l₁₃ l₁₄ l₁₅ l₁₆ l₁₇ l₁₈ l₁₉ l₂₀ l₂₁) Post))
       after-with-turn r w near′ far′ slots′ daily′ readings′ is e is-own l-near l-far l-slots l-daily r₂ w₂ is₂ e₂ =
           returns ! (look ! 54 refl) $ keep ! (54 ∷ 55 ∷ 52 ∷ 53 ∷ 50 ∷ 51 ∷ 48 ∷ 49 ∷ 46 ∷ 47 ∷ 44 ∷ 45 ∷ 42 ∷ 43 ∷ 40 ∷ 41 ∷ 38 ∷ 39 ∷ 0 ∷ 37 ∷ 35 ∷ 36 ∷ 33 ∷ 34 ∷ 31 ∷ 32 ∷ 29 ∷ 30 ∷ 27 ∷ 28 ∷ 25 ∷ 26 ∷ 23 ∷ 24 ∷ 21 ∷ 22 ∷ 19 ∷ 20 ∷ 17 ∷ 18 ∷ 15 ∷ 16 ∷ 13 ∷ 14 ∷ 6 ∷ 5 ∷ 4 ∷ 3 ∷ 2 ∷ 1 ∷ 10 ∷ 9 ∷ 8 ∷ 7 ∷ 11 ∷ 12 ∷ []) $ left l₀ l₁ l₂ l₃ l₄ l₅ l₆ l₇ l₈ l₉ l₁₀ l₁₁ l₁₂ l₁₃ l₁₄ l₁₅ l₁₆ l₁₇ l₁₈ l₁₉ l₂₀ l₂₁ w r readings′ r₂ w₂ near′ far′ slots′ daily′ is₂ e e₂ l-near l-far l-slots l-daily
 
-      after-give-lines : (r : Turn) (w : Val) (near′ : List ℕ) (far′ : List ℕ) (slots′ : List ℕ) (daily′ : List ℕ) (readings′ : List Reading) (is : Is (U.the-row) r (w ∷ [])) (e : turnView r (piece .now) (world near′ far′ slots′ daily′ (seen readings′) (curve .now)) ≡ fed (runOf (handsBack opened (world (near .now) (far .now) (slots .now) (daily .now) (seen readings) (curve .now))) []) (piece .now)) (is-own : Is (Array R.the-row 600) readings′ (array-vals (LL.vals R.the-type R′.the-laws) readings′)) (l-near : length near′ ≡ length (near .now)) (l-far : length far′ ≡ length (far .now)) (l-slots : length slots′ ≡ length (slots .now)) (l-daily : length daily′ ≡ length (daily .now)) → Sq W (‵ (fat fullShare (tyArray tyR 600) l₉ 0 (only (array-vals (LL.vals R.the-type R′.the-laws) readings′))) ∷ ‵ (flft κ₅ q₅) ∷ ‵ (flft κ₄ q₄) ∷ ‵ (flft κ₃ q₃) ∷ ‵ (flft κ₂ q₂) ∷ ‵ (flft κ₁ q₁) ∷ ‵ (flft κ₀ q₀) ∷ ‵ (finally u32 (daily .name) daily′) ∷ ‵ (finally u16 (slots .name) slots′) ∷ ‵ (finally u32 (far .name) far′) ∷ ‵ (finally u32 (near .name) near′) ∷ ‵ Own-piece ∷ ‵ Own-curve ∷ ‵ (froom (tyArray tyR 600) l₂₁ 0) ∷ ‵ (fdies (tyArray tyR 600) l₂₁) ∷ ‵ (fat fullShare (sliceTy (tyRef erased mut (pointee (R.the-row .written)))) l₂₀ 0 (sliceVal (l₉, 0) 600)) ∷ ‵ (fdies (sliceTy (tyRef erased mut (pointee (R.the-row .written)))) l₂₀) ∷ ‵ (fat fullShare (tyRef erased mut (tyArray (pointee (R.the-row .written)) 600)) l₁₉ 0 (vptr l₉ 0)) ∷ ‵ (fdies (tyRef erased mut (tyArray (pointee (R.the-row .written)) 600)) l₁₉) ∷ ‵ (fat fullShare (sliceTy (tyRef erased mut (tyInt w32))) l₁₈ 0 v-daily) ∷ ‵ (fdies (sliceTy (tyRef erased mut (tyInt w32))) l₁₈) ∷ ‵ (fat fullShare (tyRef erased mut (tyInt w32)) l₁₇ 0 (vptr (daily .ptr .0) (daily .ptr .1))) ∷ ‵ (fdies (tyRef erased mut (tyInt w32)) l₁₇) ∷ ‵ (fat fullShare (sliceTy (tyRef erased mut (tyInt w16))) l₁₆ 0 v-slots) ∷ ‵ (fdies (sliceTy (tyRef erased mut (tyInt w16))) l₁₆) ∷ ‵ (fat fullShare (tyRef erased mut (tyInt w16)) l₁₅ 0 (vptr (slots .ptr .0) (slots .ptr .1))) ∷ ‵ (fdies (tyRef erased mut (tyInt w16)) l₁₅) ∷ ‵ (fat fullShare (sliceTy (tyRef erased mut (tyInt w32))) l₁₄ 0 v-far) ∷ ‵ (fdies (sliceTy (tyRef erased mut (tyInt w32))) l₁₄) ∷ ‵ (fat fullShare (tyRef erased mut (tyInt w32)) l₁₃ 0 (vptr (far .ptr .0) (far .ptr .1))) ∷ ‵ (fdies (tyRef erased mut (tyInt w32)) l₁₃) ∷ ‵ (fat fullShare (sliceTy (tyRef erased mut (tyInt w32))) l₁₂ 0 v-near) ∷ ‵ (fdies (sliceTy (tyRef erased mut (tyInt w32))) l₁₂) ∷ ‵ (fat fullShare (tyRef erased mut (tyInt w32)) l₁₁ 0 (vptr (near .ptr .0) (near .ptr .1))) ∷ ‵ (fdies (tyRef erased mut (tyInt w32)) l₁₁) ∷ ‵ (fat fullShare tyU l₁₀ 0 w) ∷ ‵ (fdies tyU l₁₀) ∷ ‵ (fdies (tyArray tyR 600) l₉) ∷ ‵ (fat fullShare (sliceTy (tyRef (named 5) imm (tyInt w64))) l₈ 0 v-curve) ∷ ‵ (fdies (sliceTy (tyRef (named 5) imm (tyInt w64))) l₈) ∷ ‵ (fat fullShare (tyArray tyR 600) l₇ 0 (only (array-vals (LL.vals R.the-type R′.the-laws) readings))) ∷ ‵ (fdies (tyArray tyR 600) l₇) ∷ ‵ (fat fullShare (sliceTy (tyRef (named 4) mut (tyInt w32))) l₆ 0 v-daily) ∷ ‵ (fdies (sliceTy (tyRef (named 4) mut (tyInt w32))) l₆) ∷ ‵ (fat fullShare (sliceTy (tyRef (named 3) mut (tyInt w16))) l₅ 0 v-slots) ∷ ‵ (fdies (sliceTy (tyRef (named 3) mut (tyInt w16))) l₅) ∷ ‵ (fat fullShare (sliceTy (tyRef (named 2) mut (tyInt w32))) l₄ 0 v-far) ∷ ‵ (fdies (sliceTy (tyRef (named 2) mut (tyInt w32))) l₄) ∷ ‵ (fat fullShare (sliceTy (tyRef (named 1) mut (tyInt w32))) l₃ 0 v-near) ∷ ‵ (fdies (sliceTy (tyRef (named 1) mut (tyInt w32))) l₃) ∷ ‵ (fat fullShare (sliceTy (tyRef (named 0) imm (tyInt w8))) l₂ 0 v-piece) ∷ ‵ (fdies (sliceTy (tyRef (named 0) imm (tyInt w8))) l₂) ∷ ‵ (fat fullShare tyO l₁ 0 (LL.val O.the-type O′.the-laws opened)) ∷ ‵ (fdies tyO l₁) ∷ ‵ (froom tyK l₀ 0) ∷ ‵ (fdies tyK l₀) ∷ []) (runs C Λ (En l₀ l₁ l₂ l₃ l₄ l₅ l₆ l₇ l₈ l₉ l₁₀ l₁₁ l₁₂ l₁₃ l₁₄ l₁₅ l₁₆ l₁₇ l₁₈ l₁₉ l₂₀ l₂₁) pieces.t-13 (atRet (En l₀ l₁ l₂ l₃ l₄ l₅ l₆ l₇ l₈ l₉ l₁₀ l₁₁ l₁₂ l₁₃ l₁₄ l₁₅ l₁₆ l₁₇ l₁₈ l₁₉ l₂₀ l₂₁) Post))
+      after-give-lines : (r : Turn) (w : Val) (near′ : List ℕ) (far′ : List ℕ) (slots′ : List ℕ) (daily′ : List ℕ) (readings′ : List Reading) (is : Is U.the-row r (w ∷ [])) (e : turnView r (piece .now) (world near′ far′ slots′ daily′ (seen readings′) (curve .now)) ≡ fed (runOf (handsBack opened (world (near .now) (far .now) (slots .now) (daily .now) (seen readings) (curve .now))) []) (piece .now)) (is-own : Is (Array R.the-row 600) readings′ (array-vals (LL.vals R.the-type R′.the-laws) readings′)) (l-near : length near′ ≡ length (near .now)) (l-far : length far′ ≡ length (far .now)) (l-slots : length slots′ ≡ length (slots .now)) (l-daily : length daily′ ≡ length (daily .now)) → Sq W (‵ (fat fullShare (tyArray tyR 600) l₉ 0 (only (array-vals (LL.vals R.the-type R′.the-laws) readings′))) ∷ ‵ (flft κ₅ q₅) ∷ ‵ (flft κ₄ q₄) ∷ ‵ (flft κ₃ q₃) ∷ ‵ (flft κ₂ q₂) ∷ ‵ (flft κ₁ q₁) ∷ ‵ (flft κ₀ q₀) ∷ ‵ (finally u32 (daily .name) daily′) ∷ ‵ (finally u16 (slots .name) slots′) ∷ ‵ (finally u32 (far .name) far′) ∷ ‵ (finally u32 (near .name) near′) ∷ ‵ Own-piece ∷ ‵ Own-curve ∷ ‵ (froom (tyArray tyR 600) l₂₁ 0) ∷ ‵ (fdies (tyArray tyR 600) l₂₁) ∷ ‵ (fat fullShare (sliceTy (tyRef erased mut (pointee (R.the-row .written)))) l₂₀ 0 (sliceVal (l₉, 0) 600)) ∷ ‵ (fdies (sliceTy (tyRef erased mut (pointee (R.the-row .written)))) l₂₀) ∷ ‵ (fat fullShare (tyRef erased mut (tyArray (pointee (R.the-row .written)) 600)) l₁₉ 0 (vptr l₉ 0)) ∷ ‵ (fdies (tyRef erased mut (tyArray (pointee (R.the-row .written)) 600)) l₁₉) ∷ ‵ (fat fullShare (sliceTy (tyRef erased mut (tyInt w32))) l₁₈ 0 v-daily) ∷ ‵ (fdies (sliceTy (tyRef erased mut (tyInt w32))) l₁₈) ∷ ‵ (fat fullShare (tyRef erased mut (tyInt w32)) l₁₇ 0 (vptr (daily .ptr .0) (daily .ptr .1))) ∷ ‵ (fdies (tyRef erased mut (tyInt w32)) l₁₇) ∷ ‵ (fat fullShare (sliceTy (tyRef erased mut (tyInt w16))) l₁₆ 0 v-slots) ∷ ‵ (fdies (sliceTy (tyRef erased mut (tyInt w16))) l₁₆) ∷ ‵ (fat fullShare (tyRef erased mut (tyInt w16)) l₁₅ 0 (vptr (slots .ptr .0) (slots .ptr .1))) ∷ ‵ (fdies (tyRef erased mut (tyInt w16)) l₁₅) ∷ ‵ (fat fullShare (sliceTy (tyRef erased mut (tyInt w32))) l₁₄ 0 v-far) ∷ ‵ (fdies (sliceTy (tyRef erased mut (tyInt w32))) l₁₄) ∷ ‵ (fat fullShare (tyRef erased mut (tyInt w32)) l₁₃ 0 (vptr (far .ptr .0) (far .ptr .1))) ∷ ‵ (fdies (tyRef erased mut (tyInt w32)) l₁₃) ∷ ‵ (fat fullShare (sliceTy (tyRef erased mut (tyInt w32))) l₁₂ 0 v-near) ∷ ‵ (fdies (sliceTy (tyRef erased mut (tyInt w32))) l₁₂) ∷ ‵ (fat fullShare (tyRef erased mut (tyInt w32)) l₁₁ 0 (vptr (near .ptr .0) (near .ptr .1))) ∷ ‵ (fdies (tyRef erased mut (tyInt w32)) l₁₁) ∷ ‵ (fat fullShare tyU l₁₀ 0 w) ∷ ‵ (fdies tyU l₁₀) ∷ ‵ (fdies (tyArray tyR 600) l₉) ∷ ‵ (fat fullShare (sliceTy (tyRef (named 5) imm (tyInt w64))) l₈ 0 v-curve) ∷ ‵ (fdies (sliceTy (tyRef (named 5) imm (tyInt w64))) l₈) ∷ ‵ (fat fullShare (tyArray tyR 600) l₇ 0 (only (array-vals (LL.vals R.the-type R′.the-laws) readings))) ∷ ‵ (fdies (tyArray tyR 600) l₇) ∷ ‵ (fat fullShare (sliceTy (tyRef (named 4) mut (tyInt w32))) l₆ 0 v-daily) ∷ ‵ (fdies (sliceTy (tyRef (named 4) mut (tyInt w32))) l₆) ∷ ‵ (fat fullShare (sliceTy (tyRef (named 3) mut (tyInt w16))) l₅ 0 v-slots) ∷ ‵ (fdies (sliceTy (tyRef (named 3) mut (tyInt w16))) l₅) ∷ ‵ (fat fullShare (sliceTy (tyRef (named 2) mut (tyInt w32))) l₄ 0 v-far) ∷ ‵ (fdies (sliceTy (tyRef (named 2) mut (tyInt w32))) l₄) ∷ ‵ (fat fullShare (sliceTy (tyRef (named 1) mut (tyInt w32))) l₃ 0 v-near) ∷ ‵ (fdies (sliceTy (tyRef (named 1) mut (tyInt w32))) l₃) ∷ ‵ (fat fullShare (sliceTy (tyRef (named 0) imm (tyInt w8))) l₂ 0 v-piece) ∷ ‵ (fdies (sliceTy (tyRef (named 0) imm (tyInt w8))) l₂) ∷ ‵ (fat fullShare tyO l₁ 0 (LL.val O.the-type O′.the-laws opened)) ∷ ‵ (fdies tyO l₁) ∷ ‵ (froom tyK l₀ 0) ∷ ‵ (fdies tyK l₀) ∷ []) (runs C Λ (En l₀ l₁ l₂ l₃ l₄ l₅ l₆ l₇ l₈ l₉ l₁₀ l₁₁ l₁₂ l₁₃ l₁₄ l₁₅ l₁₆ l₁₇ l₁₈ l₁₉ l₂₀ l₂₁) pieces.t-13 (atRet (En l₀ l₁ l₂ l₃ l₄ l₅ l₆ l₇ l₈ l₉ l₁₀ l₁₁ l₁₂ l₁₃ l₁₄ l₁₅ l₁₆ l₁₇ l₁₈ l₁₉ l₂₀ l₂₁) Post))
       after-give-lines r w near′ far′ slots′ daily′ readings′ is e is-own l-near l-far l-slots l-daily =
           assigns ! (of-opd ! (load ! (from ! (stop !)) (look ! 0 refl))) (from ! (stop !)) (init ! 13 refl (array-typed R.the-row (LL.lawful R.the-type R′.the-laws 𝓤 H A W .typed) 600 readings′ _ is-own .0)) $
           -- `with_turn`

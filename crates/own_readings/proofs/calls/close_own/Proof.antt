@@ -166,7 +166,7 @@ module _ {M : Type 1} (𝓤 : URA M) (H : Heap 𝓤) (A : Atoms 𝓤) (W : Given
 
   module _ (C : Calls 𝓤 H) (Λ : Loops 𝓤 H) (fm : FmC 𝓤 H (W .laws) C) (known-closes : Triple 𝓤 (C #site·Record·close) (Close 𝓤 H A mem run)) where
     module _ (l₀ l₁ l₂ l₃ l₄ l₅ l₆ l₇ l₈ l₉ l₁₀ l₁₁ l₁₂ : ℕ) where
-      after-closes : (r : Closed) (w : Val) (curve′ : List ℕ) (is : Is (K.the-row) r (w ∷ [])) (e : closesBack r (world (near .now) (far .now) (slots .now) (daily .now) (seen readings) curve′) ≡ handed (closeOf (view rec) (world (near .now) (far .now) (slots .now) (daily .now) (seen readings) (curve .now)))) (l-curve : length curve′ ≡ length (curve .now)) → Sq W (‵ (fat fullShare (tyArray tyR 600) l₈ 0 (only (array-vals (LL.vals R.the-type R′.the-laws) readings))) ∷ ‵ (flft κ₃ q₃) ∷ ‵ (flft κ₂ q₂) ∷ ‵ (flft κ₁ q₁) ∷ ‵ (flft κ₀ q₀) ∷ ‵ (finally u64 (curve .name) curve′) ∷ ‵ Own-near ∷ ‵ Own-far ∷ ‵ Own-slots ∷ ‵ Own-daily ∷ ‵ (fat fullShare (sliceTy (tyRef erased mut (tyInt w64))) l₁₂ 0 v-curve) ∷ ‵ (fdies (sliceTy (tyRef erased mut (tyInt w64))) l₁₂) ∷ ‵ (fat fullShare (tyRef erased mut (tyInt w64)) l₁₁ 0 (vptr (curve .ptr .0) (curve .ptr .1))) ∷ ‵ (fdies (tyRef erased mut (tyInt w64)) l₁₁) ∷ ‵ (fat fullShare (sliceTy (tyRef erased imm (pointee (R.the-row .written)))) l₁₀ 0 (sliceVal (l₈, 0) 600)) ∷ ‵ (fdies (sliceTy (tyRef erased imm (pointee (R.the-row .written)))) l₁₀) ∷ ‵ (fat fullShare (tyRef erased imm (tyArray (pointee (R.the-row .written)) 600)) l₉ 0 (vptr l₈ 0)) ∷ ‵ (fdies (tyRef erased imm (tyArray (pointee (R.the-row .written)) 600)) l₉) ∷ ‵ (fdies (tyArray tyR 600) l₈) ∷ ‵ (fat fullShare (sliceTy (tyRef (named 3) mut (tyInt w64))) l₇ 0 v-curve) ∷ ‵ (fdies (sliceTy (tyRef (named 3) mut (tyInt w64))) l₇) ∷ ‵ (fat fullShare (tyArray tyR 600) l₆ 0 (only (array-vals (LL.vals R.the-type R′.the-laws) readings))) ∷ ‵ (fdies (tyArray tyR 600) l₆) ∷ ‵ (fat fullShare (sliceTy (tyRef (named 2) imm (tyInt w32))) l₅ 0 v-daily) ∷ ‵ (fdies (sliceTy (tyRef (named 2) imm (tyInt w32))) l₅) ∷ ‵ (fat fullShare (sliceTy (tyRef (named 1) imm (tyInt w16))) l₄ 0 v-slots) ∷ ‵ (fdies (sliceTy (tyRef (named 1) imm (tyInt w16))) l₄) ∷ ‵ (fat fullShare (sliceTy (tyRef (named 0) imm (tyInt w32))) l₃ 0 v-far) ∷ ‵ (fdies (sliceTy (tyRef (named 0) imm (tyInt w32))) l₃) ∷ ‵ (fat fullShare (sliceTy (tyRef (named 0) imm (tyInt w32))) l₂ 0 v-near) ∷ ‵ (fdies (sliceTy (tyRef (named 0) imm (tyInt w32))) l₂) ∷ ‵ (fat fullShare tyT l₁ 0 (LL.val T.the-type T′.the-laws rec)) ∷ ‵ (fdies tyT l₁) ∷ ‵ (fat fullShare tyK l₀ 0 w) ∷ ‵ (fdies tyK l₀) ∷ []) (runs C Λ (En l₀ l₁ l₂ l₃ l₄ l₅ l₆ l₇ l₈ l₉ l₁₀ l₁₁ l₁₂) pieces.t-7 (atRet (En l₀ l₁ l₂ l₃ l₄ l₅ l₆ l₇ l₈ l₉ l₁₀ l₁₁ l₁₂) Post))
+      after-closes : (r : Closed) (w : Val) (curve′ : List ℕ) (is : Is K.the-row r (w ∷ [])) (e : closesBack r (world (near .now) (far .now) (slots .now) (daily .now) (seen readings) curve′) ≡ handed (closeOf (view rec) (world (near .now) (far .now) (slots .now) (daily .now) (seen readings) (curve .now)))) (l-curve : length curve′ ≡ length (curve .now)) → Sq W (‵ (fat fullShare (tyArray tyR 600) l₈ 0 (only (array-vals (LL.vals R.the-type R′.the-laws) readings))) ∷ ‵ (flft κ₃ q₃) ∷ ‵ (flft κ₂ q₂) ∷ ‵ (flft κ₁ q₁) ∷ ‵ (flft κ₀ q₀) ∷ ‵ (finally u64 (curve .name) curve′) ∷ ‵ Own-near ∷ ‵ Own-far ∷ ‵ Own-slots ∷ ‵ Own-daily ∷ ‵ (fat fullShare (sliceTy (tyRef erased mut (tyInt w64))) l₁₂ 0 v-curve) ∷ ‵ (fdies (sliceTy (tyRef erased mut (tyInt w64))) l₁₂) ∷ ‵ (fat fullShare (tyRef erased mut (tyInt w64)) l₁₁ 0 (vptr (curve .ptr .0) (curve .ptr .1))) ∷ ‵ (fdies (tyRef erased mut (tyInt w64)) l₁₁) ∷ ‵ (fat fullShare (sliceTy (tyRef erased imm (pointee (R.the-row .written)))) l₁₀ 0 (sliceVal (l₈, 0) 600)) ∷ ‵ (fdies (sliceTy (tyRef erased imm (pointee (R.the-row .written)))) l₁₀) ∷ ‵ (fat fullShare (tyRef erased imm (tyArray (pointee (R.the-row .written)) 600)) l₉ 0 (vptr l₈ 0)) ∷ ‵ (fdies (tyRef erased imm (tyArray (pointee (R.the-row .written)) 600)) l₉) ∷ ‵ (fdies (tyArray tyR 600) l₈) ∷ ‵ (fat fullShare (sliceTy (tyRef (named 3) mut (tyInt w64))) l₇ 0 v-curve) ∷ ‵ (fdies (sliceTy (tyRef (named 3) mut (tyInt w64))) l₇) ∷ ‵ (fat fullShare (tyArray tyR 600) l₆ 0 (only (array-vals (LL.vals R.the-type R′.the-laws) readings))) ∷ ‵ (fdies (tyArray tyR 600) l₆) ∷ ‵ (fat fullShare (sliceTy (tyRef (named 2) imm (tyInt w32))) l₅ 0 v-daily) ∷ ‵ (fdies (sliceTy (tyRef (named 2) imm (tyInt w32))) l₅) ∷ ‵ (fat fullShare (sliceTy (tyRef (named 1) imm (tyInt w16))) l₄ 0 v-slots) ∷ ‵ (fdies (sliceTy (tyRef (named 1) imm (tyInt w16))) l₄) ∷ ‵ (fat fullShare (sliceTy (tyRef (named 0) imm (tyInt w32))) l₃ 0 v-far) ∷ ‵ (fdies (sliceTy (tyRef (named 0) imm (tyInt w32))) l₃) ∷ ‵ (fat fullShare (sliceTy (tyRef (named 0) imm (tyInt w32))) l₂ 0 v-near) ∷ ‵ (fdies (sliceTy (tyRef (named 0) imm (tyInt w32))) l₂) ∷ ‵ (fat fullShare tyT l₁ 0 (LL.val T.the-type T′.the-laws rec)) ∷ ‵ (fdies tyT l₁) ∷ ‵ (fat fullShare tyK l₀ 0 w) ∷ ‵ (fdies tyK l₀) ∷ []) (runs C Λ (En l₀ l₁ l₂ l₃ l₄ l₅ l₆ l₇ l₈ l₉ l₁₀ l₁₁ l₁₂) pieces.t-7 (atRet (En l₀ l₁ l₂ l₃ l₄ l₅ l₆ l₇ l₈ l₉ l₁₀ l₁₁ l₁₂) Post))
       after-closes r w curve′ is e l-curve =
           returns ! (look ! 33 refl) $ keep ! (33 ∷ 34 ∷ 31 ∷ 32 ∷ 29 ∷ 30 ∷ 27 ∷ 28 ∷ 25 ∷ 26 ∷ 23 ∷ 24 ∷ 21 ∷ 22 ∷ 19 ∷ 20 ∷ 0 ∷ 18 ∷ 16 ∷ 17 ∷ 14 ∷ 15 ∷ 12 ∷ 13 ∷ 10 ∷ 11 ∷ 4 ∷ 3 ∷ 2 ∷ 1 ∷ 5 ∷ 6 ∷ 7 ∷ 8 ∷ 9 ∷ []) $ left l₀ l₁ l₂ l₃ l₄ l₅ l₆ l₇ l₈ l₉ l₁₀ l₁₁ l₁₂ r w curve′ is e l-curve
 
