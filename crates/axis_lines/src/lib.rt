@@ -8,12 +8,13 @@ use checks::is_reached;
 use date_keys::places::key_of;
 use date_keys::places::lacks_date;
 use date_keys::places::position_at;
+use intake::Fields;
 use intake::both;
 ghost use mathlib.Core.Path.{_≡_};
 ghost use Rattle.calendar.specs.Spans.{historyYears};
 ghost use Rattle.meaning.specs.Line.{X, D};
 ghost use Rattle.meaning.specs.Refusals.{refusal};
-ghost use Rattle.judge.specs.Before.{Known, beforeRising, beforeReading};
+ghost use Rattle.judge.specs.Before.{OfTag, beforeRising, beforeReading};
 ghost use Rattle.axis_lines.specs.Answers.{readingRefused, readingJudged, dailyJudged};
 
 // X: the kind is its letter.
@@ -48,7 +49,7 @@ fn refused(number: u64) -> ReadingJudged
 
 // The last reading's date, its index and the number of readings: 8, 10 and 11 look at them.
 pub fn judge_reading(
-    line: &[u8],
+    told: Fields,
     last: u64,
     al: u64,
     filiere: u64,
@@ -56,10 +57,9 @@ pub fn judge_reading(
     previous: u64,
     readings: u64,
 ) -> ReadingJudged
-    requires { ⌜ Known X (now line) ⌝ }
-    ensures { λ r. ⌜ r ≡ readingJudged (refusal (beforeReading last (historyYears al filiere) latest previous readings) (now (line .entry))) (historyYears al filiere) (now (line .entry)) ⌝ }
+    ensures { λ r. ⌜ OfTag X told (λ l. r ≡ readingJudged (refusal (beforeReading last (historyYears al filiere) latest previous readings) l) (historyYears al filiere) l) ⌝ }
 {
-    let r = intake::read_reading(line);
+    let r = intake::read_reading(told);
     let misplaced = is_late(last, 3);
     let low = r.index <= 1_000_000_000_000;
     let inside = both(is_among(axis(al, filiere), r.year), low);
@@ -87,11 +87,10 @@ pub fn judge_reading(
     }
 }
 
-pub fn judge_daily(line: &[u8], last: u64, al: u64, filiere: u64, latest: u64) -> DailyJudged
-    requires { ⌜ Known D (now line) ⌝ }
-    ensures { λ r. ⌜ r ≡ dailyJudged (refusal (beforeRising last (historyYears al filiere) latest) (now (line .entry))) (historyYears al filiere) (now (line .entry)) ⌝ }
+pub fn judge_daily(told: Fields, last: u64, al: u64, filiere: u64, latest: u64) -> DailyJudged
+    ensures { λ r. ⌜ OfTag D told (λ l. r ≡ dailyJudged (refusal (beforeRising last (historyYears al filiere) latest) l) (historyYears al filiere) l) ⌝ }
 {
-    let r = intake::read_daily(line);
+    let r = intake::read_daily(told);
     let misplaced = is_late(last, 4);
     let inside = both(is_among(axis(al, filiere), r.year), r.sum <= 3_145_680);
     let key = key_of(r.year, r.month, r.day);

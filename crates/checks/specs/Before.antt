@@ -9,12 +9,22 @@ use Rattle.meaning.specs.Filing.{Meter, noMeter}
 use Rattle.meaning.specs.Line.{Line, Tag, tagOf}
 use Rattle.meaning.specs.Refusals.{Before, isIllegible, isUnknown}
 use Rattle.meaning.specs.Record.{barredBy}
+use Rattle.fields.specs.Fields.{Tells}
+use Rattle.fields.specs.declared.Fields.{Fields}
 
 -- a line of tag t that 2 and 3 leave
 pub record Known (t : Tag) (l : Line) : Type 0 where
   pub legible : isIllegible l ≡ false
   pub known : isUnknown l ≡ false
   pub tag : tagOf l ≡ t
+
+-- of every line of tag t that these are the fields of and that 2 and 3 leave
+abbrev pub OfTag : Tag → Fields → (Line → Type 0) → Type 0
+OfTag t f Says = (l : Line) → Tells f l → Known t l → Says l
+
+-- these are the fields of such a line
+abbrev pub OneOfTag : Tag → Fields → Type 0
+OneOfTag t f = (l : Line) × Tells f l × Known t l
 
 -- 8: the last date or year of the tag, 0 for none, is this one or a later one
 unfoldable pub isReached : ℕ → ℕ → Bool

@@ -8,7 +8,7 @@ use Rattle.text.specs.Fields.{upTo, past, restAt, fieldAt, reads, edition}
 use Rattle.text.specs.Numbers.{isNumber}
 use Rattle.meaning.specs.Line.{Line, Tag, S, X, D, B, R, E, Form, formsOf, inForm, someField, tagOf, meterOf, isMeter, kindOf, isKind}
 use Rattle.meaning.specs.Refusals.{isMalformed}
-use Rattle.intake.specs.Reads.{inForms, isFormed}
+use Rattle.intake.specs.Reads.{inForms, isFormed, isDateFormed}
 
 -- ---- one field more, in front and at the end
 pub in-forms-cons : (m : Form) (ms : List Form) (t : List ℕ) → inForms (m ∷ ms) t ≡ (inForm m (upTo t) && inForms ms (past t))
@@ -86,10 +86,6 @@ dated y m d ms l =
     go true true c r = refl
     go true false c r = refl
     go false b c r = refl
-
--- the three fields of a date
-unfoldable pub isDateFormed : Line → Bool
-isDateFormed l = isNumber (fieldAt l 1) && (isNumber (fieldAt l 2) && isNumber (fieldAt l 3))
 
 pub formed-reading : (l : Line) → isFormed X l ≡ (isDateFormed l && (isNumber (fieldAt l 4) && isKind (kindOf (fieldAt l 5))))
 unfolding isFormed formsOf inForm isDateFormed fieldAt restAt

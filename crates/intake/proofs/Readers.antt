@@ -1,20 +1,20 @@
--- What each reader hands out, by what the code has in hand: the fields that it split off, and what it asked of each.
-use mathlib.Core.Path.{_≡_, refl, ap, _∙_}
+-- What each reader hands out, by what the code has in hand: the shapes and the numbers of a line's fields.
+use mathlib.Core.Path.{_≡_, refl, ap, sym, _∙_}
 use mathlib.Core.Bool.{Bool, not, _&&_}
-use mathlib.Core.List.{List}
-use Prim.Native.Nat.{ℕ, _+_, _-_, _≤_}
+use Prim.Native.Nat.{ℕ, _<_}
 use native.Mathlib.Omega.{arith}
 use lib.Dec.{eqb}
-use lib.ListN.{length, take, drop}
-use Rattle.text.specs.Fields.{upTo, past, restAt, fieldAt, reads, edition}
-use Rattle.text.specs.Numbers.{isNumber, numberedOf}
-use Rattle.text.specs.declared.Numbered.{Numbered}
-use Rattle.meaning.specs.Line.{Line, numberAt, meterOf, isMeter, kindOf}
+use lib.ListN.{getD}
+use Rattle.text.specs.Fields.{fieldAt, reads, edition}
+use Rattle.text.specs.Numbers.{isNumber}
+use Rattle.meaning.specs.Line.{Line, numberAt, meterOf, meterOfLetter, isMeter, kindOf, kindOfLetter}
 use Rattle.meaning.specs.Blocks.{letterOfKind}
+use Rattle.fields.specs.Fields.{Tells}
+use Rattle.fields.specs.declared.Fields.{Fields}
+use Rattle.fields.proofs.Shaped.{shape-number, shape-edition, shape-meter, shape-kind}
+use Rattle.fields.proofs.Read.{shape-at, value-at}
 use Rattle.intake.specs.Views.{meterView, meterShown}
-use Rattle.intake.specs.Reads.{cappedAt, siteReadOf, readingReadOf, dailyReadOf, yearReadOf, rateReadOf, countReadOf}
-use Rattle.intake.specs.Parts.{dateFieldsOf}
-use Rattle.intake.specs.declared.DateFields.{DateFields}
+use Rattle.intake.specs.Reads.{cappedAt, isDateFormed, siteReadOf, readingReadOf, dailyReadOf, yearReadOf, rateReadOf, countReadOf}
 use Rattle.intake.specs.declared.Meter.{Meter}
 use Rattle.intake.specs.declared.SiteRead.{SiteRead}
 use Rattle.intake.specs.declared.ReadingRead.{ReadingRead}
@@ -22,92 +22,78 @@ use Rattle.intake.specs.declared.DailyRead.{DailyRead}
 use Rattle.intake.specs.declared.YearRead.{YearRead}
 use Rattle.intake.specs.declared.RateRead.{RateRead}
 use Rattle.intake.specs.declared.CountRead.{CountRead}
-use Rattle.intake.proofs.Fields.{number-past, used}
-use Rattle.intake.proofs.Forms.{isDateFormed, formed-site, formed-year, formed-rate, formed-count, formed-reading, formed-daily}
+use Rattle.intake.proofs.Forms.{formed-site, formed-year, formed-rate, formed-count, formed-reading, formed-daily}
 use Rattle.intake.proofs.Tags.{shown, kind-letter}
 
--- ---- a number that was read off the n-th field
-pub record NumberAt (l : Line) (n : ℕ) (f : Numbered) : Type 0 where
-  pub formed : f .formed ≡ isNumber (fieldAt l n)
-  pub value : f .value ≡ cappedAt l n
+module _ (f : Fields) (l : Line) (w : Tells f l) where
+  -- ---- one field
+  pub number-at : (k : ℕ) (b : Bool) → k < 24 → b ≡ eqb (getD (f .shapes) k 0) 48 → b ≡ isNumber (fieldAt l k)
+  number-at k b h e = e ∙ rw (shape-at l f w k h) (sym (shape-number (fieldAt l k)))
 
-pub number-at : (l t : List ℕ) (f : Numbered) (n : ℕ) → t ≡ restAt l n → f ≡ numberedOf t → NumberAt l n f
-unfolding numberedOf cappedAt numberAt fieldAt
-number-at l t f n p e = record { formed = ap (λ (x : Numbered). x .formed) e ∙ rw p refl; value = ap (λ (x : Numbered). x .value) e ∙ rw p refl }
+  pub capped-at : (k : ℕ) → k < 24 → getD (f .values) k 0 ≡ cappedAt l k
+  unfolding cappedAt numberAt
+  capped-at k h = value-at l f w k h
 
--- ---- B, R, E
-pub year-read : (l : Line) (f : Numbered) → NumberAt l 1 f → _≡_ {A = YearRead} (record { formed = f .formed; year = f .value }) (yearReadOf l)
-unfolding yearReadOf
-year-read l f at = rw (at .formed, at .value, formed-year l)
+  -- ---- B, R, E
+  pub year-read : (b : Bool) → b ≡ eqb (getD (f .shapes) 1 0) 48 → _≡_ {A = YearRead} (record { formed = b; year = getD (f .values) 1 0 }) (yearReadOf l)
+  unfolding yearReadOf
+  year-read b e = rw (number-at 1 b (omega arith) e, capped-at 1 (omega arith), formed-year l)
 
-pub count-read : (l : Line) (f : Numbered) → NumberAt l 1 f → _≡_ {A = CountRead} (record { formed = f .formed; count = f .value }) (countReadOf l)
-unfolding countReadOf
-count-read l f at = rw (at .formed, at .value, formed-count l)
+  pub count-read : (b : Bool) → b ≡ eqb (getD (f .shapes) 1 0) 48 → _≡_ {A = CountRead} (record { formed = b; count = getD (f .values) 1 0 }) (countReadOf l)
+  unfolding countReadOf
+  count-read b e = rw (number-at 1 b (omega arith) e, capped-at 1 (omega arith), formed-count l)
 
-pub rate-read : (l : Line) (f g : Numbered) (b : Bool) → NumberAt l 1 f → NumberAt l 2 g → b ≡ (f .formed && g .formed)
-    → _≡_ {A = RateRead} (record { formed = b; year = f .value; rate = g .value }) (rateReadOf l)
-unfolding rateReadOf
-rate-read l f g b af ag j = rw (j, af .formed, ag .formed, af .value, ag .value, formed-rate l)
+  pub rate-read : (b y r : Bool) → y ≡ eqb (getD (f .shapes) 1 0) 48 → r ≡ eqb (getD (f .shapes) 2 0) 48 → b ≡ (y && r)
+      → _≡_ {A = RateRead} (record { formed = b; year = getD (f .values) 1 0; rate = getD (f .values) 2 0 }) (rateReadOf l)
+  unfolding rateReadOf
+  rate-read b y r p q j = rw (j, number-at 1 y (omega arith) p, number-at 2 r (omega arith) q, capped-at 1 (omega arith), capped-at 2 (omega arith), formed-rate l)
 
--- ---- S
-pub site-read : (l e m : List ℕ) (a f p : Numbered) (b be bm b1 b2 b3 : Bool) (k : Meter)
-    → e ≡ fieldAt l 1 → NumberAt l 2 a → NumberAt l 3 f → m ≡ fieldAt l 4 → NumberAt l 5 p
-    → k ≡ meterShown (meterOf m) → bm ≡ isMeter (meterView k) → be ≡ reads e edition
-    → b1 ≡ (bm && p .formed) → b2 ≡ (f .formed && b1) → b3 ≡ (a .formed && b2) → b ≡ (be && b3)
-    → _≡_ {A = SiteRead} (record { formed = b; site = record { al = a .value; filiere = f .value; meter = k; ps = p .value } }) (siteReadOf l)
-unfolding siteReadOf
-site-read l e m a f p b be bm b1 b2 b3 k pe pa pf pm pp ek em je j1 j2 j3 j =
-    rw (j, j3, j2, j1, je, em, ek, pa .formed, pf .formed, pp .formed, pa .value, pf .value, pp .value, pe, pm, formed-site l, shown (meterOf (fieldAt l 4)))
+  -- ---- the date
+  pub date-read : (b bm bd by be : Bool) → bm ≡ eqb (getD (f .shapes) 2 0) 48 → bd ≡ eqb (getD (f .shapes) 3 0) 48 → by ≡ eqb (getD (f .shapes) 1 0) 48 → be ≡ (bm && bd) → b ≡ (by && be) → b ≡ isDateFormed l
+  unfolding isDateFormed
+  date-read b bm bd by be m d y je j = j ∙ rw (je, number-at 1 by (omega arith) y, number-at 2 bm (omega arith) m, number-at 3 bd (omega arith) d)
 
--- ---- the date
--- its fields, and what is left past them
-pub three-fields : (t : List ℕ) (y : Numbered) (r : List ℕ) (m : Numbered) (s : List ℕ) (d : Numbered) (u : List ℕ)
-    → y ≡ numberedOf t → r ≡ drop (y .length + 1) t → m ≡ numberedOf r → s ≡ drop (m .length + 1) r → d ≡ numberedOf s → u ≡ drop (d .length + 1) s
-    → NumberAt t 0 y × (NumberAt t 1 m × (NumberAt t 2 d × (u ≡ restAt t 3)))
-three-fields t y r m s d u ey er em es ed eu =
-    let r1 = number-past t t y r 0 (start t) ey er in
-    let r2 = number-past t r m s 1 r1 em es in
-    (number-at t t y 0 (start t) ey, (number-at t r m 1 r1 em, (number-at t s d 2 r2 ed, number-past t s d u 2 r2 ed eu)))
-  where
-    start : (t : List ℕ) → t ≡ restAt t 0
-    start t = unfold restAt in refl
+  -- ---- X, D
+  kind-here : letterOfKind (kindOfLetter (getD (f .shapes) 5 0)) ≡ letterOfKind (kindOf (fieldAt l 5))
+  kind-here = rw (shape-at l f w 5 (omega arith), shape-kind (fieldAt l 5))
 
-pub date-fields : (t : List ℕ) (y m d : Numbered) (u : List ℕ) (b be : Bool)
-    → NumberAt t 0 y × (NumberAt t 1 m × (NumberAt t 2 d × (u ≡ restAt t 3))) → be ≡ (m .formed && d .formed) → b ≡ (y .formed && be)
-    → _≡_ {A = DateFields} (record { formed = b; year = y .value; month = m .value; day = d .value; used = length t - length u }) (dateFieldsOf t)
-unfolding dateFieldsOf
-date-fields t y m d u b be f je j =
-    rw (j, je, f .0 .formed, f .1 .0 .formed, f .1 .1 .0 .formed, f .0 .value, f .1 .0 .value, f .1 .1 .0 .value, f .1 .1 .1)
+  pub reading-read : (k : ℕ) (b bd bi be : Bool) → k ≡ letterOfKind (kindOfLetter (getD (f .shapes) 5 0)) → bi ≡ eqb (getD (f .shapes) 4 0) 48 → be ≡ (bi && not (eqb k 0)) → bd ≡ isDateFormed l → b ≡ (bd && be)
+      → _≡_ {A = ReadingRead} (record { formed = b; year = getD (f .values) 1 0; month = getD (f .values) 2 0; day = getD (f .values) 3 0; index = getD (f .values) 4 0; kind = k }) (readingReadOf l)
+  unfolding readingReadOf
+  reading-read k b bd bi be e i je d j =
+      rw (j, je, d, number-at 4 bi (omega arith) i, e ∙ kind-here, capped-at 1 (omega arith), capped-at 2 (omega arith), capped-at 3 (omega arith), capped-at 4 (omega arith), kind-letter (kindOf (fieldAt l 5)), formed-reading l)
 
--- it stands past the tag
-pub record DateAt (l : Line) (t : List ℕ) (d : DateFields) : Type 0 where
-  pub formed : d .formed ≡ isDateFormed l
-  pub year : d .year ≡ cappedAt l 1
-  pub month : d .month ≡ cappedAt l 2
-  pub day : d .day ≡ cappedAt l 3
-  pub fits : d .used ≤ length t
-  pub rest : take (length t - d .used) (drop (d .used) t) ≡ restAt l 4
+  pub daily-read : (b bd bs : Bool) → bs ≡ eqb (getD (f .shapes) 4 0) 48 → bd ≡ isDateFormed l → b ≡ (bd && bs)
+      → _≡_ {A = DailyRead} (record { formed = b; year = getD (f .values) 1 0; month = getD (f .values) 2 0; day = getD (f .values) 3 0; sum = getD (f .values) 4 0 }) (dailyReadOf l)
+  unfolding dailyReadOf
+  daily-read b bd bs s d j = rw (j, d, number-at 4 bs (omega arith) s, capped-at 1 (omega arith), capped-at 2 (omega arith), capped-at 3 (omega arith), capped-at 4 (omega arith), formed-daily l)
 
-pub date-at : (l t : List ℕ) (d : DateFields) → t ≡ past l → d ≡ dateFieldsOf t → DateAt l t d
-unfolding dateFieldsOf isDateFormed cappedAt numberAt fieldAt restAt
-date-at l t d p e = record {
-  formed = ap (λ (x : DateFields). x .formed) e ∙ rw p refl;
-  year = ap (λ (x : DateFields). x .year) e ∙ rw p refl;
-  month = ap (λ (x : DateFields). x .month) e ∙ rw p refl;
-  day = ap (λ (x : DateFields). x .day) e ∙ rw p refl;
-  fits = rw e (omega arith);
-  rest = used 3 t (d .used) (ap (λ (x : DateFields). x .used) e) ∙ rw p refl;
-}
+  -- ---- S
+  meter-here : meterOfLetter (getD (f .shapes) 4 0) ≡ meterOf (fieldAt l 4)
+  meter-here = rw (shape-at l f w 4 (omega arith)) (sym (shape-meter (fieldAt l 4)))
 
--- ---- X, D
-pub reading-read : (l t : List ℕ) (d : DateFields) (i : Numbered) (k : List ℕ) (b be : Bool) (vk : ℕ) → DateAt l t d → NumberAt l 4 i → k ≡ fieldAt l 5
-    → vk ≡ letterOfKind (kindOf k) → be ≡ (i .formed && not (eqb vk 0)) → b ≡ (d .formed && be)
-    → _≡_ {A = ReadingRead} (record { formed = b; year = d .year; month = d .month; day = d .day; index = i .value; kind = vk }) (readingReadOf l)
-unfolding readingReadOf
-reading-read l t d i k b be vk at ai ek nk je j =
-    rw (j, je, nk, ek, ai .formed, ai .value, at .formed, at .year, at .month, at .day, formed-reading l, kind-letter (kindOf (fieldAt l 5)))
+  edition-here : eqb (getD (f .shapes) 1 0) 49 ≡ reads (fieldAt l 1) edition
+  edition-here = rw (shape-at l f w 1 (omega arith)) (sym (shape-edition (fieldAt l 1)))
 
-pub daily-read : (l t : List ℕ) (d : DateFields) (s : Numbered) (b : Bool) → DateAt l t d → NumberAt l 4 s → b ≡ (d .formed && s .formed)
-    → _≡_ {A = DailyRead} (record { formed = b; year = d .year; month = d .month; day = d .day; sum = s .value }) (dailyReadOf l)
-unfolding dailyReadOf
-daily-read l t d s b at an j = rw (j, an .formed, an .value, at .formed, at .year, at .month, at .day, formed-daily l)
+  pub site-read : (k : Meter) (b bm bp b1 bf ba b2 b3 : Bool) → k ≡ meterShown (meterOfLetter (getD (f .shapes) 4 0)) → bm ≡ isMeter (meterView k) → bp ≡ eqb (getD (f .shapes) 5 0) 48 → b1 ≡ (bm && bp)
+      → bf ≡ eqb (getD (f .shapes) 3 0) 48 → ba ≡ eqb (getD (f .shapes) 2 0) 48 → b2 ≡ (bf && b1) → b3 ≡ (ba && b2) → b ≡ (eqb (getD (f .shapes) 1 0) 49 && b3)
+      → _≡_ {A = SiteRead} (record { formed = b; site = record { al = getD (f .values) 2 0; filiere = getD (f .values) 3 0; meter = k; ps = getD (f .values) 5 0 } }) (siteReadOf l)
+  unfolding siteReadOf
+  site-read k b bm bp b1 bf ba b2 b3 ek em ep j1 ef ea j2 j3 j =
+      rw (
+        j,
+        j3,
+        j2,
+        j1,
+        em,
+        ek ∙ ap meterShown meter-here,
+        number-at 5 bp (omega arith) ep,
+        number-at 3 bf (omega arith) ef,
+        number-at 2 ba (omega arith) ea,
+        edition-here,
+        capped-at 2 (omega arith),
+        capped-at 3 (omega arith),
+        capped-at 5 (omega arith),
+        formed-site l,
+        shown (meterOf (fieldAt l 4)),
+      )

@@ -1,4 +1,3 @@
 pub mod Views
 pub mod Reads
 pub mod Ranges
-pub mod Parts

@@ -1,13 +1,13 @@
 -- What is read off a line, whatever bytes it has: its tag, whether its fields are in their forms, and its numbers up to the most.
-use mathlib.Core.Bool.{Bool, not}
+use mathlib.Core.Bool.{Bool, _&&_, not}
 use mathlib.Core.List.{List}
 use Prim.Native.Nat.{ℕ, min}
 use Rattle.text.specs.Fields.{past, fieldAt}
-use Rattle.text.specs.Numbers.{most}
+use Rattle.text.specs.Numbers.{isNumber, most}
 use Rattle.meaning.specs.Line.{Line, Tag, S, X, D, B, R, E, Form, formsOf, inForm, someField, numberAt, meterOf, kindOf}
 use Rattle.meaning.specs.Blocks.{letterOfKind}
 use Rattle.intake.specs.Views.{meterShown}
-unfoldable pub use Rattle.tags.specs.Tags.{knownTag, legibleFields, tagWith}
+unfoldable pub use Rattle.tags.specs.Tags.{knownTag}
 pub use Rattle.tags.specs.Tags.{sizes}
 use Rattle.intake.specs.declared.SiteRead.{SiteRead}
 use Rattle.intake.specs.declared.ReadingRead.{ReadingRead}
@@ -23,6 +23,10 @@ inForms ms t = not (someField (λ m f. not (inForm m f)) ms t)
 -- whether every field after the tag is in the form that a line of this tag gives it
 unfoldable pub isFormed : Tag → Line → Bool
 isFormed t l = inForms (formsOf t) (past l)
+
+-- the three fields of a date
+unfoldable pub isDateFormed : Line → Bool
+isDateFormed l = isNumber (fieldAt l 1) && (isNumber (fieldAt l 2) && isNumber (fieldAt l 3))
 
 -- a field's number, up to the most
 unfoldable pub cappedAt : Line → ℕ → ℕ

@@ -1,22 +1,20 @@
 // X and D: a date, and a number.
 use crate::DailyRead;
 use crate::ReadingRead;
-use crate::parts::after_tag;
 use crate::parts::both;
-use crate::parts::date_fields;
+use crate::parts::is_dated;
+use crate::parts::is_number;
+use fields::Fields;
 ghost use mathlib.Core.Path.{_≡_};
-ghost use Rattle.meaning.specs.Line.{kindOf};
+ghost use Rattle.meaning.specs.Line.{kindOfLetter};
 ghost use Rattle.meaning.specs.Blocks.{letterOfKind};
+ghost use Rattle.fields.specs.Fields.{Of};
 ghost use Rattle.intake.specs.Reads.{readingReadOf, dailyReadOf};
 
-// R, C or E, alone in its field; 0 for no kind.
-fn kind_of(f: &[u8]) -> u8
-    ensures { λ r. ⌜ r ≡ letterOfKind (kindOf (now (f .entry))) ⌝ }
+// R, C or E; 0 for no kind.
+fn kind_of(letter: u8) -> u8
+    ensures { λ r. ⌜ r ≡ letterOfKind (kindOfLetter letter) ⌝ }
 {
-    if f.len() != 1 {
-        return 0;
-    }
-    let letter = f[0];
     match letter {
         b'R' => b'R',
         b'C' => b'C',
@@ -25,38 +23,30 @@ fn kind_of(f: &[u8]) -> u8
     }
 }
 
-pub fn read_reading(line: &[u8]) -> ReadingRead
-    ensures { λ r. ⌜ r ≡ readingReadOf (now (line .entry)) ⌝ }
+pub fn read_reading(told: Fields) -> ReadingRead
+    ensures { λ r. ⌜ Of told (λ l. r ≡ readingReadOf l) ⌝ }
 {
-    let t = after_tag(line);
-    let date = date_fields(t);
-    let a = date.used;
-    let after_date = &t[a..];
-    let index = text::number(after_date);
-    let kind = kind_of(text::field(text::after(after_date, index.length)));
-    let end = both(index.formed, kind != 0);
+    let kind = kind_of(told.shapes[5]);
+    let end = both(is_number(told.shapes[4]), kind != 0);
     ReadingRead {
-        formed: both(date.formed, end),
-        year: date.year,
-        month: date.month,
-        day: date.day,
-        index: index.value,
+        formed: both(is_dated(told), end),
+        year: told.values[1],
+        month: told.values[2],
+        day: told.values[3],
+        index: told.values[4],
         kind,
     }
 }
 
-pub fn read_daily(line: &[u8]) -> DailyRead
-    ensures { λ r. ⌜ r ≡ dailyReadOf (now (line .entry)) ⌝ }
+pub fn read_daily(told: Fields) -> DailyRead
+    ensures { λ r. ⌜ Of told (λ l. r ≡ dailyReadOf l) ⌝ }
 {
-    let t = after_tag(line);
-    let date = date_fields(t);
-    let a = date.used;
-    let sum = text::number(&t[a..]);
+    let sum = is_number(told.shapes[4]);
     DailyRead {
-        formed: both(date.formed, sum.formed),
-        year: date.year,
-        month: date.month,
-        day: date.day,
-        sum: sum.value,
+        formed: both(is_dated(told), sum),
+        year: told.values[1],
+        month: told.values[2],
+        day: told.values[3],
+        sum: told.values[4],
     }
 }

@@ -1,21 +1,22 @@
-// One line's form: from its bytes to its tag, as `tags` has it, and its numbers.
+// One line's form: from its fields to its tag, as `tags` has it, and its numbers.
 //
-// Each reader takes any bytes. It says whether every field after the tag is in its form (5), and hands out each number up to 10^18, which is above
-// every range that a field has, so that 6 and 7 can be judged on the numbers alone.
+// Each reader takes the fields of any line. It says whether every field after the tag is in its form (5), and hands out each number up to 10^18, which
+// is above every range that a field has, so that 6 and 7 can be judged on the numbers alone.
 mod dated; // X and D
-mod parts; // the tag passed, and the date past it
+mod parts; // numbers, and the date past the tag
 mod site_line; // S
 mod years; // B, R and E
 
 pub use dated::read_daily;
 pub use dated::read_reading;
-pub use parts::after_tag;
+pub use fields::Fields;
+pub use fields::read_fields;
 pub use parts::both;
-pub use parts::date_fields;
+pub use parts::is_dated;
+pub use parts::is_number;
 pub use site_line::is_too_soon;
 pub use site_line::read_site;
 pub use tags::known_tag;
-pub use tags::legible_fields;
 pub use years::read_count;
 pub use years::read_rate;
 pub use years::read_year;
@@ -77,13 +78,4 @@ pub struct RateRead {
 pub struct CountRead {
     pub formed: bool,
     pub count: u64,
-}
-
-// The date in the first three fields of what is left of a line, and how many bytes they take with their tabs.
-pub struct DateFields {
-    pub formed: bool,
-    pub year: u64,
-    pub month: u64,
-    pub day: u64,
-    pub used: usize,
 }

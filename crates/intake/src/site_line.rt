@@ -1,23 +1,22 @@
-// S: edition, AL, filière, meter, PS, each field split off what the one before it left.
+// S: edition, AL, filière, meter, PS.
 use crate::Meter;
 use crate::Site;
 use crate::SiteRead;
-use crate::parts::after_tag;
 use crate::parts::both;
+use crate::parts::is_number;
+use fields::EDITION;
+use fields::Fields;
 ghost use mathlib.Core.Path.{_≡_};
-ghost use Rattle.meaning.specs.Line.{meterOf, isMeter};
+ghost use Rattle.meaning.specs.Line.{meterOfLetter, isMeter};
 ghost use Rattle.meaning.specs.Refusals.{isTooSoon};
+ghost use Rattle.fields.specs.Fields.{Of};
 ghost use Rattle.intake.specs.Views.{meterView, meterShown};
 ghost use Rattle.intake.specs.Reads.{siteReadOf};
 
-// T or I, alone in its field.
-fn meter_of(f: &[u8]) -> Meter
-    ensures { λ r. ⌜ r ≡ meterShown (meterOf (now (f .entry))) ⌝ }
+// T or I.
+fn meter_of(letter: u8) -> Meter
+    ensures { λ r. ⌜ r ≡ meterShown (meterOfLetter letter) ⌝ }
 {
-    if f.len() != 1 {
-        return Meter::NoMeter;
-    }
-    let letter = f[0];
     match letter {
         b'T' => Meter::Curve,
         b'I' => Meter::Index,
@@ -42,28 +41,20 @@ pub fn is_too_soon(al: u64, filiere: u64) -> bool
     both(6 <= filiere, al < 2023)
 }
 
-pub fn read_site(line: &[u8]) -> SiteRead
-    ensures { λ r. ⌜ r ≡ siteReadOf (now (line .entry)) ⌝ }
+pub fn read_site(told: Fields) -> SiteRead
+    ensures { λ r. ⌜ Of told (λ l. r ≡ siteReadOf l) ⌝ }
 {
-    let t = after_tag(line);
-    let edition = text::field(t);
-    let after_edition = text::after(t, edition.len());
-    let al = text::number(after_edition);
-    let after_al = text::after(after_edition, al.length);
-    let filiere = text::number(after_al);
-    let after_filiere = text::after(after_al, filiere.length);
-    let letter = text::field(after_filiere);
-    let meter = meter_of(letter);
-    let ps = text::number(text::after(after_filiere, letter.len()));
-    let end = both(is_meter(meter), ps.formed);
-    let numbers = both(al.formed, both(filiere.formed, end));
+    let meter = meter_of(told.shapes[4]);
+    let end = both(is_meter(meter), is_number(told.shapes[5]));
+    let filiere = is_number(told.shapes[3]);
+    let numbers = both(is_number(told.shapes[2]), both(filiere, end));
     SiteRead {
-        formed: both(text::is_edition(edition), numbers),
+        formed: both(told.shapes[1] == EDITION, numbers),
         site: Site {
-            al: al.value,
-            filiere: filiere.value,
+            al: told.values[2],
+            filiere: told.values[3],
             meter,
-            ps: ps.value,
+            ps: told.values[5],
         },
     }
 }

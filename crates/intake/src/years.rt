@@ -2,40 +2,39 @@
 use crate::CountRead;
 use crate::RateRead;
 use crate::YearRead;
-use crate::parts::after_tag;
 use crate::parts::both;
+use crate::parts::is_number;
+use fields::Fields;
 ghost use mathlib.Core.Path.{_≡_};
+ghost use Rattle.fields.specs.Fields.{Of};
 ghost use Rattle.intake.specs.Reads.{yearReadOf, rateReadOf, countReadOf};
 
-pub fn read_year(line: &[u8]) -> YearRead
-    ensures { λ r. ⌜ r ≡ yearReadOf (now (line .entry)) ⌝ }
+pub fn read_year(told: Fields) -> YearRead
+    ensures { λ r. ⌜ Of told (λ l. r ≡ yearReadOf l) ⌝ }
 {
-    let year = text::number(after_tag(line));
     YearRead {
-        formed: year.formed,
-        year: year.value,
+        formed: is_number(told.shapes[1]),
+        year: told.values[1],
     }
 }
 
-pub fn read_rate(line: &[u8]) -> RateRead
-    ensures { λ r. ⌜ r ≡ rateReadOf (now (line .entry)) ⌝ }
+pub fn read_rate(told: Fields) -> RateRead
+    ensures { λ r. ⌜ Of told (λ l. r ≡ rateReadOf l) ⌝ }
 {
-    let t = after_tag(line);
-    let year = text::number(t);
-    let rate = text::number(text::after(t, year.length));
+    let year = is_number(told.shapes[1]);
+    let rate = is_number(told.shapes[2]);
     RateRead {
-        formed: both(year.formed, rate.formed),
-        year: year.value,
-        rate: rate.value,
+        formed: both(year, rate),
+        year: told.values[1],
+        rate: told.values[2],
     }
 }
 
-pub fn read_count(line: &[u8]) -> CountRead
-    ensures { λ r. ⌜ r ≡ countReadOf (now (line .entry)) ⌝ }
+pub fn read_count(told: Fields) -> CountRead
+    ensures { λ r. ⌜ Of told (λ l. r ≡ countReadOf l) ⌝ }
 {
-    let count = text::number(after_tag(line));
     CountRead {
-        formed: count.formed,
-        count: count.value,
+        formed: is_number(told.shapes[1]),
+        count: told.values[1],
     }
 }

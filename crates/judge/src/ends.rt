@@ -5,6 +5,7 @@ use checks::Checks;
 use checks::first;
 use checks::is_late;
 use checks::is_within;
+use intake::Fields;
 use intake::Meter;
 use intake::Site;
 use intake::both;
@@ -12,14 +13,13 @@ use intake::is_too_soon;
 ghost use mathlib.Core.Path.{_≡_};
 ghost use Rattle.meaning.specs.Line.{S, E};
 ghost use Rattle.meaning.specs.Refusals.{refusal};
-ghost use Rattle.judge.specs.Before.{Known, beforeFirst, beforeEnd};
+ghost use Rattle.judge.specs.Before.{OfTag, beforeFirst, beforeEnd};
 ghost use Rattle.judge.specs.Answers.{siteJudged, endJudged};
 
-pub fn judge_site(line: &[u8], last: u64) -> SiteJudged
-    requires { ⌜ Known S (now line) ⌝ }
-    ensures { λ r. ⌜ r ≡ siteJudged (refusal (beforeFirst last) (now (line .entry))) (now (line .entry)) ⌝ }
+pub fn judge_site(told: Fields, last: u64) -> SiteJudged
+    ensures { λ r. ⌜ OfTag S told (λ l. r ≡ siteJudged (refusal (beforeFirst last) l) l) ⌝ }
 {
-    let r = intake::read_site(line);
+    let r = intake::read_site(told);
     let site = r.site;
     let numbers = both(
         is_within(site.filiere, 1, 11),
@@ -52,11 +52,10 @@ pub fn judge_site(line: &[u8], last: u64) -> SiteJudged
     SiteJudged { number, site }
 }
 
-pub fn judge_end(line: &[u8], last: u64, count: u64) -> EndJudged
-    requires { ⌜ Known E (now line) ⌝ }
-    ensures { λ r. ⌜ r ≡ endJudged (refusal (beforeEnd last count) (now (line .entry))) ⌝ }
+pub fn judge_end(told: Fields, last: u64, count: u64) -> EndJudged
+    ensures { λ r. ⌜ OfTag E told (λ l. r ≡ endJudged (refusal (beforeEnd last count) l)) ⌝ }
 {
-    let r = intake::read_count(line);
+    let r = intake::read_count(told);
     let misplaced = is_late(last, 8);
     let number = first(Checks {
         misplaced,

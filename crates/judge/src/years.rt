@@ -8,19 +8,19 @@ use checks::first;
 use checks::is_late;
 use checks::is_reached;
 use checks::is_within;
+use intake::Fields;
 use intake::both;
 ghost use mathlib.Core.Path.{_≡_};
 ghost use Rattle.calendar.specs.Spans.{historyYears};
 ghost use Rattle.meaning.specs.Line.{B, R};
 ghost use Rattle.meaning.specs.Refusals.{refusal};
-ghost use Rattle.judge.specs.Before.{Known, beforeRising};
+ghost use Rattle.judge.specs.Before.{OfTag, beforeRising};
 ghost use Rattle.judge.specs.Answers.{yearJudged, rateJudged};
 
-pub fn judge_break(line: &[u8], last: u64, al: u64, filiere: u64, latest: u64) -> YearJudged
-    requires { ⌜ Known B (now line) ⌝ }
-    ensures { λ r. ⌜ r ≡ yearJudged (refusal (beforeRising last (historyYears al filiere) latest) (now (line .entry))) (now (line .entry)) ⌝ }
+pub fn judge_break(told: Fields, last: u64, al: u64, filiere: u64, latest: u64) -> YearJudged
+    ensures { λ r. ⌜ OfTag B told (λ l. r ≡ yearJudged (refusal (beforeRising last (historyYears al filiere) latest) l) l) ⌝ }
 {
-    let r = intake::read_year(line);
+    let r = intake::read_year(told);
     let misplaced = is_late(last, 6);
     let inside = is_among(history(al, filiere), r.year);
     let reached = is_reached(latest, r.year);
@@ -44,11 +44,10 @@ pub fn judge_break(line: &[u8], last: u64, al: u64, filiere: u64, latest: u64) -
     }
 }
 
-pub fn judge_rate(line: &[u8], last: u64, al: u64, filiere: u64, latest: u64) -> RateJudged
-    requires { ⌜ Known R (now line) ⌝ }
-    ensures { λ r. ⌜ r ≡ rateJudged (refusal (beforeRising last (historyYears al filiere) latest) (now (line .entry))) (now (line .entry)) ⌝ }
+pub fn judge_rate(told: Fields, last: u64, al: u64, filiere: u64, latest: u64) -> RateJudged
+    ensures { λ r. ⌜ OfTag R told (λ l. r ≡ rateJudged (refusal (beforeRising last (historyYears al filiere) latest) l) l) ⌝ }
 {
-    let r = intake::read_rate(line);
+    let r = intake::read_rate(told);
     let misplaced = is_late(last, 7);
     let inside = both(
         is_among(history(al, filiere), r.year),

@@ -9,6 +9,7 @@ use Rattle.lists.specs.Lists.{any, firstOf}
 use Rattle.calendar.specs.declared.Years.{Years}
 use Rattle.calendar.specs.Dates.{isDate, isWinter}
 use Rattle.text.specs.Fields.{past, tabs}
+unfoldable pub use Rattle.text.specs.Fields.{isStrange}
 use Rattle.meaning.specs.Filing.{Site}
 use Rattle.meaning.specs.Line.{Line, Tag, S, X, E, is, tagOf, size, formsOf, inForm, inRange, someField, numberAt, yearOn, monthOn, dayOn, siteOn, hasDateOn, isWinterTag, keyOf}
 
@@ -42,10 +43,6 @@ numberOf tooSoon = 9
 numberOf falling = 10
 numberOf tooMany = 11
 numberOf miscounted = 12
-
--- a byte other than tab and 32 to 126
-unfoldable pub isStrange : ℕ → Bool
-isStrange b = not (eqb b 9) && (ltb b 32 || ltb 126 b)
 
 -- 9: filières 6 to 11 are certified from AL 2023 on
 unfoldable pub isTooSoon : ℕ → ℕ → Bool

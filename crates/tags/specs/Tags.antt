@@ -1,11 +1,9 @@
 -- The tag of a line, whatever bytes it has (document 01, Calls and the lines of a file).
 use mathlib.Core.Bool.{cond}
 use mathlib.Core.List.{List, [], _∷_, map}
-use Prim.Native.Nat.{ℕ, _+_}
-use lib.Dec.{eqb}
-use Rattle.text.specs.Fields.{tabs}
+use Prim.Native.Nat.{ℕ}
 use Rattle.meaning.specs.Line.{Line, S, C, X, D, P, B, R, E, other, rank, size, tagOf}
-use Rattle.meaning.specs.Refusals.{isIllegible, isUnknown}
+use Rattle.meaning.specs.Refusals.{isUnknown}
 
 -- 3: the rank of the line's tag, 0 where the tag is unknown or the number of fields wrong
 unfoldable pub knownTag : Line → ℕ
@@ -14,11 +12,3 @@ knownTag l = cond (isUnknown l) 0 (rank (tagOf l))
 -- the number of fields by rank, the tag included
 abbrev pub sizes : List ℕ
 sizes = map size (other ∷ S ∷ C ∷ X ∷ D ∷ P ∷ B ∷ R ∷ E ∷ [])
-
--- 2: how many fields a line has, one more than its tabs; 0 where it is illegible
-unfoldable pub legibleFields : Line → ℕ
-legibleFields l = cond (isIllegible l) 0 (tabs l + 1)
-
--- 3, by the number n of the line's fields
-unfoldable pub tagWith : Line → ℕ → ℕ
-tagWith l n = cond (eqb n (size (tagOf l))) (rank (tagOf l)) 0

@@ -5,16 +5,9 @@ use Prim.Native.Nat.{ℕ, zero, suc, _≤_}
 use native.Mathlib.Omega.{arith}
 use Rattle.meaning.specs.Line.{Line, Tag, S, C, X, D, P, B, R, E, other, rank, tagOf}
 use Rattle.meaning.specs.Refusals.{isIllegible, isUnknown}
-use Rattle.intake.specs.Reads.{knownTag, legibleFields, tagWith}
-use Rattle.intake.proofs.Tags.{known-with, told-legible, unknown, known-tag}
+use Rattle.intake.specs.Reads.{knownTag}
+use Rattle.intake.proofs.Tags.{unknown, known-tag}
 use Rattle.judge.specs.Before.{Known}
-
--- 2, by the number of fields; the tag is then asked with that number
-pub fields-legible : (l : Line) (n : ℕ) → n ≡ legibleFields l → (n ≡ 0 → ⊥) → isIllegible l ≡ false
-fields-legible l n e h = told-legible l (λ (z : legibleFields l ≡ 0). h (e ∙ z)) .0
-
-pub fields-tag : (l : Line) (n t : ℕ) → n ≡ legibleFields l → (n ≡ 0 → ⊥) → t ≡ tagWith l n → t ≡ knownTag l
-fields-tag l n t e h k = k ∙ known-with l n (e ∙ told-legible l (λ (z : legibleFields l ≡ 0). h (e ∙ z)) .1)
 
 -- 3, by the rank of the known tag
 pub known : (t : Tag) (l : Line) (n : ℕ) → isIllegible l ≡ false → n ≡ knownTag l → n ≡ rank t → (rank t ≡ 0 → ⊥) → Known t l

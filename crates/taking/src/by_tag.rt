@@ -11,7 +11,7 @@ use crate::stored::daily_line;
 use crate::stored::points_line;
 use crate::stored::profiles_line;
 use intake::known_tag;
-use intake::legible_fields;
+use intake::read_fields;
 ghost use mathlib.Core.Path.{_≡_};
 ghost use mathlib.Core.Bool.{true};
 ghost use Rattle.meaning.specs.Record.{recFits};
@@ -31,20 +31,20 @@ pub fn take_line(
     requires { ⌜ (recFits (openRec count progress) ≡ true) × LineSizes (lineBlocks (now near) (now far) (now slots) (now daily)) ⌝ }
     ensures { λ r. ⌜ stepView count r (lineBlocks (now (near .exit)) (now (far .exit)) (now (slots .exit)) (now (daily .exit))) ≡ stepOf (openRec count progress) (now (line .entry)) (lineBlocks (now (near .entry)) (now (far .entry)) (now (slots .entry)) (now (daily .entry))) ⌝ }
 {
-    let n = legible_fields(line);
-    if n == 0 {
+    let told = read_fields(line);
+    if told.count == 0 {
         return answer(2, progress);
     }
-    let tag = known_tag(line, n);
+    let tag = known_tag(told);
     match tag {
-        1 => site_line(progress, line),
-        2 => points_line(progress, line, near, far),
-        3 => reading_line(progress, line),
-        4 => daily_line(progress, line, daily),
-        5 => profiles_line(progress, line, slots),
-        6 => break_line(progress, line),
-        7 => rate_line(progress, line),
-        8 => end_line(progress, count, line),
+        1 => site_line(progress, told),
+        2 => points_line(progress, told, near, far),
+        3 => reading_line(progress, told),
+        4 => daily_line(progress, told, daily),
+        5 => profiles_line(progress, told, slots),
+        6 => break_line(progress, told),
+        7 => rate_line(progress, told),
+        8 => end_line(progress, count, told),
         _ => answer(3, progress),
     }
 }

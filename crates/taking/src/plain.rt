@@ -3,22 +3,22 @@ use crate::Progress;
 use crate::Step;
 use crate::answers::answer;
 use calendar::spans::history;
+use intake::Fields;
 use judge::judge_break;
 use judge::judge_end;
 use judge::judge_rate;
 use judge::judge_site;
 ghost use mathlib.Core.Path.{_≡_};
 ghost use Rattle.meaning.specs.Line.{S, B, R, E};
-ghost use Rattle.judge.specs.Before.{Known};
+ghost use Rattle.judge.specs.Before.{OfTag, OneOfTag};
 ghost use Rattle.taking.specs.Views.{openRec, stepView, StepsTo};
 ghost use Rattle.taking.specs.Steps.{stepOf, noBlock};
 
 // S: what it says of the site is kept.
-pub fn site_line(mut progress: Progress, line: &[u8]) -> Step
-    requires { ⌜ Known S (now line) ⌝ }
-    ensures { λ r. ⌜ StepsTo progress (now (line .entry)) noBlock r noBlock ⌝ }
+pub fn site_line(mut progress: Progress, told: Fields) -> Step
+    ensures { λ r. ⌜ OfTag S told (λ l. StepsTo progress l noBlock r noBlock) ⌝ }
 {
-    let judged = judge_site(line, progress.last);
+    let judged = judge_site(told, progress.last);
     let number = judged.number;
     if number != 0 {
         return answer(number, progress);
@@ -30,13 +30,13 @@ pub fn site_line(mut progress: Progress, line: &[u8]) -> Step
 }
 
 // B: a break of its year.
-pub fn break_line(mut progress: Progress, line: &[u8]) -> Step
-    requires { ⌜ Known B (now line) ⌝ }
-    ensures { λ r. ⌜ StepsTo progress (now (line .entry)) noBlock r noBlock ⌝ }
+pub fn break_line(mut progress: Progress, told: Fields) -> Step
+    requires { ⌜ OneOfTag B told ⌝ }
+    ensures { λ r. ⌜ OfTag B told (λ l. StepsTo progress l noBlock r noBlock) ⌝ }
 {
     let site = progress.site;
     let mut lasts = progress.lasts;
-    let judged = judge_break(line, progress.last, site.al, site.filiere, lasts.b);
+    let judged = judge_break(told, progress.last, site.al, site.filiere, lasts.b);
     let number = judged.number;
     if number != 0 {
         return answer(number, progress);
@@ -54,13 +54,13 @@ pub fn break_line(mut progress: Progress, line: &[u8]) -> Step
 }
 
 // R: the rate of its year.
-pub fn rate_line(mut progress: Progress, line: &[u8]) -> Step
-    requires { ⌜ Known R (now line) ⌝ }
-    ensures { λ r. ⌜ StepsTo progress (now (line .entry)) noBlock r noBlock ⌝ }
+pub fn rate_line(mut progress: Progress, told: Fields) -> Step
+    requires { ⌜ OneOfTag R told ⌝ }
+    ensures { λ r. ⌜ OfTag R told (λ l. StepsTo progress l noBlock r noBlock) ⌝ }
 {
     let site = progress.site;
     let mut lasts = progress.lasts;
-    let judged = judge_rate(line, progress.last, site.al, site.filiere, lasts.r);
+    let judged = judge_rate(told, progress.last, site.al, site.filiere, lasts.r);
     let number = judged.number;
     if number != 0 {
         return answer(number, progress);
@@ -78,11 +78,10 @@ pub fn rate_line(mut progress: Progress, line: &[u8]) -> Step
 }
 
 // E: no line may follow.
-pub fn end_line(mut progress: Progress, count: u64, line: &[u8]) -> Step
-    requires { ⌜ Known E (now line) ⌝ }
-    ensures { λ r. ⌜ stepView count r noBlock ≡ stepOf (openRec count progress) (now (line .entry)) noBlock ⌝ }
+pub fn end_line(mut progress: Progress, count: u64, told: Fields) -> Step
+    ensures { λ r. ⌜ OfTag E told (λ l. stepView count r noBlock ≡ stepOf (openRec count progress) l noBlock) ⌝ }
 {
-    let judged = judge_end(line, progress.last, count);
+    let judged = judge_end(told, progress.last, count);
     let number = judged.number;
     if number != 0 {
         return answer(number, progress);

@@ -3,19 +3,20 @@ use crate::Progress;
 use crate::Step;
 use crate::answers::answer;
 use axis_lines::judge_reading;
+use intake::Fields;
 ghost use Rattle.meaning.specs.Line.{X};
-ghost use Rattle.judge.specs.Before.{Known};
+ghost use Rattle.judge.specs.Before.{OfTag, OneOfTag};
 ghost use Rattle.taking.specs.Views.{StepsTo};
 ghost use Rattle.taking.specs.Steps.{noBlock};
 
-pub fn reading_line(mut progress: Progress, line: &[u8]) -> Step
-    requires { ⌜ Known X (now line) ⌝ }
-    ensures { λ r. ⌜ StepsTo progress (now (line .entry)) noBlock r noBlock ⌝ }
+pub fn reading_line(mut progress: Progress, told: Fields) -> Step
+    requires { ⌜ OneOfTag X told ⌝ }
+    ensures { λ r. ⌜ OfTag X told (λ l. StepsTo progress l noBlock r noBlock) ⌝ }
 {
     let site = progress.site;
     let mut lasts = progress.lasts;
     let judged = judge_reading(
-        line,
+        told,
         progress.last,
         site.al,
         site.filiere,

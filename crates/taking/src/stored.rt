@@ -8,26 +8,27 @@ use blocks::stores::put_profiles;
 use blocks::stores::put_sum;
 use calendar::spans::axis;
 use calendar::spans::history;
+use intake::Fields;
 use winter_lines::judge_points;
 use winter_lines::judge_profiles;
 ghost use mathlib.Core.Path.{_≡_};
 ghost use lib.ListN.{length};
 ghost use Rattle.meaning.specs.Line.{C, D, P};
-ghost use Rattle.judge.specs.Before.{Known};
+ghost use Rattle.judge.specs.Before.{OfTag, OneOfTag};
 ghost use Rattle.taking.specs.Views.{StepsTo};
 ghost use Rattle.taking.specs.Steps.{pointBlocks, slotBlock, dailyBlock, FewDates};
 
 // C: 20 points in the row of its year.
-pub fn points_line(mut progress: Progress, line: &[u8], near: &mut [u32], far: &mut [u32]) -> Step
-    requires { ⌜ Known C (now line) × ((length (now near) ≡ 15200) × (length (now far) ≡ 15200)) ⌝ }
-    ensures { λ r. ⌜ StepsTo progress (now (line .entry)) (pointBlocks (now (near .entry)) (now (far .entry))) r (pointBlocks (now (near .exit)) (now (far .exit))) ⌝ }
+pub fn points_line(mut progress: Progress, told: Fields, near: &mut [u32], far: &mut [u32]) -> Step
+    requires { ⌜ OneOfTag C told × ((length (now near) ≡ 15200) × (length (now far) ≡ 15200)) ⌝ }
+    ensures { λ r. ⌜ OfTag C told (λ l. StepsTo progress l (pointBlocks (now (near .entry)) (now (far .entry))) r (pointBlocks (now (near .exit)) (now (far .exit)))) ⌝ }
 {
     let site = progress.site;
     let meter = site.meter;
     let mut lasts = progress.lasts;
     let mut codes = [0u64; 20];
     let judged = judge_points(
-        line,
+        told,
         progress.last,
         meter,
         site.al,
@@ -47,15 +48,15 @@ pub fn points_line(mut progress: Progress, line: &[u8], near: &mut [u32], far: &
 }
 
 // P: 20 profile values in the row of its year, and one date more.
-pub fn profiles_line(mut progress: Progress, line: &[u8], slots: &mut [u16]) -> Step
-    requires { ⌜ Known P (now line) × FewDates (progress .tallies .«profile_dates») × (length (now slots) ≡ 30400) ⌝ }
-    ensures { λ r. ⌜ StepsTo progress (now (line .entry)) (slotBlock (now (slots .entry))) r (slotBlock (now (slots .exit))) ⌝ }
+pub fn profiles_line(mut progress: Progress, told: Fields, slots: &mut [u16]) -> Step
+    requires { ⌜ OneOfTag P told × FewDates (progress .tallies .«profile_dates») × (length (now slots) ≡ 30400) ⌝ }
+    ensures { λ r. ⌜ OfTag P told (λ l. StepsTo progress l (slotBlock (now (slots .entry))) r (slotBlock (now (slots .exit)))) ⌝ }
 {
     let site = progress.site;
     let mut lasts = progress.lasts;
     let mut codes = [0u64; 20];
     let judged = judge_profiles(
-        line,
+        told,
         progress.last,
         site.al,
         site.filiere,
@@ -81,13 +82,13 @@ pub fn profiles_line(mut progress: Progress, line: &[u8], slots: &mut [u16]) -> 
 }
 
 // D: the daily sum at its position, and one date more.
-pub fn daily_line(mut progress: Progress, line: &[u8], daily: &mut [u32]) -> Step
-    requires { ⌜ Known D (now line) × FewDates (progress .tallies .«daily_dates») × (length (now daily) ≡ 4392) ⌝ }
-    ensures { λ r. ⌜ StepsTo progress (now (line .entry)) (dailyBlock (now (daily .entry))) r (dailyBlock (now (daily .exit))) ⌝ }
+pub fn daily_line(mut progress: Progress, told: Fields, daily: &mut [u32]) -> Step
+    requires { ⌜ OneOfTag D told × FewDates (progress .tallies .«daily_dates») × (length (now daily) ≡ 4392) ⌝ }
+    ensures { λ r. ⌜ OfTag D told (λ l. StepsTo progress l (dailyBlock (now (daily .entry))) r (dailyBlock (now (daily .exit)))) ⌝ }
 {
     let site = progress.site;
     let mut lasts = progress.lasts;
-    let judged = judge_daily(line, progress.last, site.al, site.filiere, lasts.d);
+    let judged = judge_daily(told, progress.last, site.al, site.filiere, lasts.d);
     let number = judged.number;
     if number != 0 {
         return answer(number, progress);

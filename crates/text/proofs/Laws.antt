@@ -10,10 +10,10 @@ use lib.Dec.{T, eqb, leb}
 use lib.ListN.{length, take, drop, getD, drop-of-length-le, length-take, length-drop}
 use lib.Seq.{drop-cons, take-length, take-suc}
 use borrow.Author.Tests.{eq-eqb, ne-eqb, eqb-true, eqb-false, leb-true, leb-false}
-use Rattle.lists.specs.Lists.{Each, each-nil, each-cons}
-use Rattle.lists.proofs.Laws.{same, is-true}
+use Rattle.lists.specs.Lists.{any, Each, each-nil, each-cons}
+use Rattle.lists.proofs.Laws.{same, is-true, any-snoc}
 use Rattle.lists.proofs.Reflect.{of-eq, of-and}
-use Rattle.text.specs.Fields.{upTo, past, tabAt, tabs, restAt, fieldAt, reads}
+use Rattle.text.specs.Fields.{isStrange, upTo, past, tabAt, tabs, restAt, fieldAt, reads}
 use Rattle.text.specs.Numbers.{isDigit, isNumber, valueOf, most, numberedOf}
 use Rattle.text.specs.declared.Numbered.{Numbered}
 pub use Rattle.numbers.proofs.Laws.{any-here, any-on, any-end, value-snoc, number-snoc, leb-capped, ltb-capped, eqb-capped, of-digit, of-number, of-dash}
@@ -118,10 +118,13 @@ number-on s i b c v h p q e =
 pub value-on : (s : List ℕ) (i v w : ℕ) → i < length s → v ≡ min (valueOf (take i s)) most → w ≡ min (v * 10 + (getD s i 0 - 48)) most → w ≡ min (valueOf (take (i + 1) s)) most
 value-on s i v w h q e = e ∙ rw (add-one i, take-suc s i 0 h, value-snoc (take i s) (getD s i 0)) (omega arith)
 
-pub numbered : (s : List ℕ) (i : ℕ) (b : Bool) (v : ℕ) → i ≡ tabAt s → b ≡ isNumber (take i s) → v ≡ min (valueOf (take i s)) most
-    → _≡_ {A = Numbered} (record { length = i; formed = b; value = v }) (numberedOf s)
+pub strange-on : (s : List ℕ) (i : ℕ) (b c : Bool) → i < length s → b ≡ any isStrange (take i s) → c ≡ (b || isStrange (getD s i 0)) → c ≡ any isStrange (take (i + 1) s)
+strange-on s i b c h p e = e ∙ rw (p, add-one i, take-suc s i 0 h, any-snoc isStrange (take i s) (getD s i 0))
+
+pub numbered : (s : List ℕ) (i : ℕ) (a b : Bool) (v : ℕ) → i ≡ tabAt s → a ≡ any isStrange (take i s) → b ≡ isNumber (take i s) → v ≡ min (valueOf (take i s)) most
+    → _≡_ {A = Numbered} (record { length = i; strange = a; formed = b; value = v }) (numberedOf s)
 unfolding numberedOf
-numbered s i b v e p q = rw (p, q, first-of s i e, e)
+numbered s i a b v e g p q = rw (g, p, q, first-of s i e, e)
 
 -- ---- fields in words
 -- no byte of a field is a tab

@@ -1,8 +1,12 @@
 -- The fields of a line, which is a list of bytes: the parts between its tabs (document 01, Calls and the lines of a file).
-use mathlib.Core.Bool.{Bool, true, false, _&&_, cond}
+use mathlib.Core.Bool.{Bool, true, false, _&&_, _||_, not, cond}
 use mathlib.Core.List.{List, [], _∷_}
 use Prim.Native.Nat.{ℕ, zero, suc}
-use lib.Dec.{eqb}
+use lib.Dec.{eqb, ltb}
+
+-- a byte other than tab and 32 to 126
+unfoldable pub isStrange : ℕ → Bool
+isStrange b = not (eqb b 9) && (ltb b 32 || ltb 126 b)
 
 -- the bytes before the first tab: all where there is no tab
 unfoldable pub upTo : List ℕ → List ℕ

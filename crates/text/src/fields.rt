@@ -6,40 +6,20 @@
 //     let k = past(t.len(), e);
 //     t = &t[k..];
 use crate::Numbered;
+use crate::bytes::also_strange;
 ghost use mathlib.Core.Path.{_≡_};
 ghost use Prim.Native.Nat.{_+_, min};
-ghost use lib.ListN.{drop};
-ghost use Rattle.text.specs.Fields.{upTo, tabAt, reads, edition};
+ghost use lib.ListN.{take};
+ghost use Rattle.text.specs.Fields.{reads, edition};
 ghost use Rattle.text.specs.Numbers.{numberedOf};
 
 const TAB: u8 = 9;
 
-// How many bytes stand before the first tab: all where there is no tab.
-pub fn tab(s: &[u8]) -> usize
-    ensures { λ r. ⌜ r ≡ tabAt (now (s .entry)) ⌝ }
-{
-    let mut e = 0;
-    while e < s.len() {
-        if s[e] == TAB {
-            return e;
-        }
-        e += 1;
-    }
-    e
-}
-
-// The first field.
-pub fn field(s: &[u8]) -> &[u8]
-    ensures { λ r. ⌜ now r ≡ upTo (now (s .entry)) ⌝ }
-{
-    let e = tab(s);
-    &s[..e]
-}
-
-// The first field's end, its form as a number and its number, in one walk over its bytes.
+// The first field's end, its bytes' legibility, its form as a number and its number, in one walk over its bytes.
 pub fn number(s: &[u8]) -> Numbered
     ensures { λ r. ⌜ r ≡ numberedOf (now (s .entry)) ⌝ }
 {
+    let mut strange = false;
     let mut formed = false;
     let mut value: u64 = 0;
     let mut i = 0;
@@ -48,15 +28,27 @@ pub fn number(s: &[u8]) -> Numbered
         if b == TAB {
             break;
         }
+        strange = also_strange(strange, b);
         formed = numbers::goes_on(i, formed, value, b);
         value = numbers::capped(value * 10 + numbers::worth(b));
         i += 1;
     }
     Numbered {
         length: i,
+        strange,
         formed,
         value,
     }
+}
+
+// The first e bytes of a line, all where there are fewer: its first field, where that has e bytes.
+pub fn field(s: &[u8], e: usize) -> &[u8]
+    ensures { λ r. ⌜ now r ≡ take e (now (s .entry)) ⌝ }
+{
+    if e < s.len() {
+        return &s[..e];
+    }
+    s
 }
 
 // The place past e bytes and the tab after them, in a line of len bytes: its end where that is sooner.
@@ -64,14 +56,6 @@ pub fn past(len: usize, e: usize) -> usize
     ensures { λ r. ⌜ r ≡ min (e + 1) len ⌝ }
 {
     if e < len { e + 1 } else { len }
-}
-
-// What is left of a line past e bytes and the tab after them.
-pub fn after(s: &[u8], e: usize) -> &[u8]
-    ensures { λ r. ⌜ now r ≡ drop (e + 1) (now (s .entry)) ⌝ }
-{
-    let k = past(s.len(), e);
-    &s[k..]
 }
 
 // Whether a field is a text, byte for byte.

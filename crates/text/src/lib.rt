@@ -1,18 +1,18 @@
 // The text of a file's lines: fields parted by tabs, and what a field holds: a fixed text, or as `numbers` has it a number or a dash.
-mod fields;
+mod bytes; // strange bytes
+mod fields; // fields and the number in one
 
-pub use fields::after;
+pub use bytes::some_strange;
 pub use fields::field;
 pub use fields::is_edition;
 pub use fields::number;
 pub use fields::past;
 pub use fields::reads;
-pub use fields::tab;
-pub use numbers::is_dash;
 
-// The first field: how many bytes it has, whether they are a number, and their number up to 10^18.
+// The first field: how many bytes it has, whether one of them is strange, whether they are a number, and their number up to 10^18.
 pub struct Numbered {
     pub length: usize,
+    pub strange: bool,
     pub formed: bool,
     pub value: u64,
 }

@@ -21,7 +21,7 @@ use Rattle.meaning.specs.Refusals.{isMalformed, isOutside}
 use Rattle.meaning.specs.Blocks.{missingPoint, codeOfPoint}
 use Rattle.meaning.specs.Calls.{pointCodes, profileValues}
 use Rattle.intake.specs.Reads.{cappedAt}
-use Rattle.intake.proofs.Fields.{rest-suc}
+use Rattle.fields.proofs.Told.{rest-suc}
 use Rattle.intake.proofs.Forms.{malformed}
 use Rattle.intake.proofs.Capped.{Early, not-leb, above-capped, above-exact}
 use Rattle.intake.proofs.Checks.{either, year-off, year-exact}

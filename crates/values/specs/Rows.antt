@@ -5,7 +5,7 @@ use Prim.Native.Nat.{ℕ, _+_, min}
 use lib.Dec.{eqb, ltb}
 use lib.ListN.{replicate}
 use Rattle.lists.specs.Lists.{tab}
-use Rattle.text.specs.Fields.{fieldAt}
+use Rattle.text.specs.Fields.{fieldAt, restAt}
 use Rattle.text.specs.Numbers.{isNumber, valueOf, isDash, most}
 use Rattle.meaning.specs.Line.{Line, Tag, C, P, Form, number, numberOrDash, mostPower, mostProfile}
 use Rattle.intake.specs.Reads.{inForms}
@@ -33,6 +33,6 @@ rowAt dashes l n = tab 20 0 (λ h. codeOf dashes (fieldAt l (n + h)))
 unfoldable pub isAbove : Bool → ℕ → ℕ → Bool
 isAbove dashes b v = not (dashes && eqb v dash) && ltb b v
 
--- the first 20 fields of what is left of a line
-unfoldable pub rowOf : Bool → List ℕ → Row
-rowOf dashes t = record { formed = inForms (replicate 20 (rowForm dashes)) t; codes = rowAt dashes t 0 }
+-- the 20 fields past the date
+unfoldable pub rowOf : Bool → Line → Row
+rowOf dashes l = record { formed = inForms (replicate 20 (rowForm dashes)) (restAt l 4); codes = rowAt dashes l 4 }

@@ -1,9 +1,9 @@
 // The lines of 20 values, C and P. Each value is handed out as a code: its number, or DASH for a missing point.
-mod fields; // the fields of a line, in one pass
+mod dated; // the fields of a line
 mod ranges; // 6 on the values
 
-pub use fields::read_points;
-pub use fields::read_profiles;
+pub use dated::read_points;
+pub use dated::read_profiles;
 pub use ranges::points_outside;
 pub use ranges::profiles_outside;
 

@@ -8,6 +8,7 @@ use checks::is_reached;
 use date_keys::places::key_of;
 use date_keys::places::lacks_date;
 use date_keys::places::winter_at;
+use intake::Fields;
 use intake::Meter;
 use intake::both;
 use values::points_outside;
@@ -21,7 +22,7 @@ ghost use Rattle.meaning.specs.File.{isIndexMeter};
 ghost use Rattle.meaning.specs.Refusals.{refusal};
 ghost use Rattle.intake.specs.Views.{meterView};
 ghost use Rattle.values.specs.Codes.{pointRow, profileRow};
-ghost use Rattle.judge.specs.Before.{Known, beforePoints, beforeRising};
+ghost use Rattle.judge.specs.Before.{OfTag, beforePoints, beforeRising};
 ghost use Rattle.winter_lines.specs.Places.{pointsLate};
 ghost use Rattle.winter_lines.specs.Answers.{dateRefused, dateJudged};
 
@@ -65,7 +66,7 @@ fn refused(number: u64) -> DateJudged
 }
 
 pub fn judge_points(
-    line: &[u8],
+    told: Fields,
     last: u64,
     meter: Meter,
     al: u64,
@@ -73,10 +74,9 @@ pub fn judge_points(
     latest: u64,
     codes: &mut [u64; 20],
 ) -> DateJudged
-    requires { ⌜ Known C (now line) ⌝ }
-    ensures { λ r. ⌜ (r ≡ dateJudged C (refusal (beforePoints last (meterView meter) (historyYears al filiere) latest) (now (line .entry))) (now (line .entry))) × (now (codes .exit) ≡ pointRow (now (line .entry))) ⌝ }
+    ensures { λ r. ⌜ OfTag C told (λ l. (r ≡ dateJudged C (refusal (beforePoints last (meterView meter) (historyYears al filiere) latest) l) l) × (now (codes .exit) ≡ pointRow l)) ⌝ }
 {
-    let r = read_points(line, codes);
+    let r = read_points(told, codes);
     let misplaced = is_barred(last, meter);
     let above = points_outside(codes);
     let inside = both(is_among(history(al, filiere), r.year), !above);
@@ -104,17 +104,16 @@ pub fn judge_points(
 }
 
 pub fn judge_profiles(
-    line: &[u8],
+    told: Fields,
     last: u64,
     al: u64,
     filiere: u64,
     latest: u64,
     codes: &mut [u64; 20],
 ) -> DateJudged
-    requires { ⌜ Known P (now line) ⌝ }
-    ensures { λ r. ⌜ (r ≡ dateJudged P (refusal (beforeRising last (historyYears al filiere) latest) (now (line .entry))) (now (line .entry))) × (now (codes .exit) ≡ profileRow (now (line .entry))) ⌝ }
+    ensures { λ r. ⌜ OfTag P told (λ l. (r ≡ dateJudged P (refusal (beforeRising last (historyYears al filiere) latest) l) l) × (now (codes .exit) ≡ profileRow l)) ⌝ }
 {
-    let r = read_profiles(line, codes);
+    let r = read_profiles(told, codes);
     let misplaced = is_late(last, 5);
     let above = profiles_outside(codes);
     let inside = both(is_among(history(al, filiere), r.year), !above);

@@ -1,53 +1,49 @@
+use Rattle.intake.proofs.Readers.{daily-read}
 use borrow.Author.Needs.{needs}
-use Rattle.intake.proofs.Readers.{number-at, date-at, daily-read}
 use Rattle.intake.proofs.dated.read_daily.Statement.{statement}
 use Rattle.intake.proofs.dated.read_daily.Tie as tie
 
-after-tag-requires : tie.Need-after-tag-requires
-after-tag-requires c κs = search needs
+element-copy-out-is-number : tie.Need-element-copy-out-is-number
+element-copy-out-is-number c = search needs
 
-date-fields-requires : tie.Need-date-fields-requires
-date-fields-requires c κs = search needs
+is-number-requires : tie.Need-is-number-requires
+is-number-requires c κs = search needs
 
-sub-number : tie.Need-sub-number
-sub-number c =
-    let b1 = c .before in
-    let l = b1 .before .before .args .line .now in
-    date-at l _ _ (b1 .after-tag .ensures) (c .date-fields .ensures) .fits
-
-part-number-start : tie.Need-part-number-start
-part-number-start c =
-    let b1 = c .before in
-    let l = b1 .before .before .args .line .now in
-    date-at l _ _ (b1 .after-tag .ensures) (c .date-fields .ensures) .fits
-
-part-number-end : tie.Need-part-number-end
-part-number-end c = search needs
-
-number-requires : tie.Need-number-requires
-number-requires c κs = search needs
+is-dated-requires : tie.Need-is-dated-requires
+is-dated-requires c κs = search needs
 
 both-requires : tie.Need-both-requires
 both-requires c κs = search needs
 
+element-copy-out-t12 : tie.Need-element-copy-out-t12
+element-copy-out-t12 c = search needs
+
+element-copy-out-t15 : tie.Need-element-copy-out-t15
+element-copy-out-t15 c = search needs
+
+element-copy-out-t18 : tie.Need-element-copy-out-t18
+element-copy-out-t18 c = search needs
+
+element-copy-out-t21 : tie.Need-element-copy-out-t21
+element-copy-out-t21 c = search needs
+
 returns : tie.Need-returns
 returns c =
-    let b1 = c .before in
-    let b3 = b1 .before .before in
-    let b4 = b3 .before in
-    let l = b4 .before .before .args .line .now in
-    let d = date-at l _ _ (b4 .after-tag .ensures) (b3 .date-fields .ensures) in
-    daily-read l _ _ _ _ d (number-at l _ _ 4 (d .rest) (b1 .number .ensures)) (c .both .ensures)
+    let b4 = c .before .before .before .before in
+    let b5 = b4 .before in
+    let b6 = b5 .before in
+    λ l w. daily-read (b6 .before .before .args .t1) l w _ _ _ (b6 .is-number .ensures) (b5 .is-dated .ensures l w) (b4 .both .ensures)
 
 pub read-daily-spec : {M : Type 1} → statement M
 read-daily-spec =
     tie.close
     (tie.spec
-    after-tag-requires
-    date-fields-requires
-    sub-number
-    part-number-start
-    part-number-end
-    number-requires
+    element-copy-out-is-number
+    is-number-requires
+    is-dated-requires
     both-requires
+    element-copy-out-t12
+    element-copy-out-t15
+    element-copy-out-t18
+    element-copy-out-t21
     returns)

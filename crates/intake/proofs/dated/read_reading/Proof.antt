@@ -1,76 +1,63 @@
+use Rattle.intake.proofs.Readers.{reading-read}
 use borrow.Author.Needs.{needs}
-use Rattle.intake.proofs.Fields.{field-of, number-past}
-use Rattle.intake.proofs.Readers.{number-at, date-at, reading-read}
 use Rattle.intake.proofs.dated.read_reading.Statement.{statement}
 use Rattle.intake.proofs.dated.read_reading.Tie as tie
 
-after-tag-requires : tie.Need-after-tag-requires
-after-tag-requires c κs = search needs
-
-date-fields-requires : tie.Need-date-fields-requires
-date-fields-requires c κs = search needs
-
-sub-after-date : tie.Need-sub-after-date
-sub-after-date c =
-    let b1 = c .before in
-    let l = b1 .before .before .args .line .now in
-    date-at l _ _ (b1 .after-tag .ensures) (c .date-fields .ensures) .fits
-
-part-after-date-start : tie.Need-part-after-date-start
-part-after-date-start c =
-    let b1 = c .before in
-    let l = b1 .before .before .args .line .now in
-    date-at l _ _ (b1 .after-tag .ensures) (c .date-fields .ensures) .fits
-
-part-after-date-end : tie.Need-part-after-date-end
-part-after-date-end c = search needs
-
-number-requires : tie.Need-number-requires
-number-requires c κs = search needs
-
-after-requires : tie.Need-after-requires
-after-requires c κs = search needs
-
-field-requires : tie.Need-field-requires
-field-requires c κs = search needs
+element-copy-out-kind-of : tie.Need-element-copy-out-kind-of
+element-copy-out-kind-of c = search needs
 
 kind-of-requires : tie.Need-kind-of-requires
 kind-of-requires c κs = search needs
 
+element-copy-out-is-number : tie.Need-element-copy-out-is-number
+element-copy-out-is-number c = search needs
+
+is-number-requires : tie.Need-is-number-requires
+is-number-requires c κs = search needs
+
 both-requires : tie.Need-both-requires
 both-requires c κs = search needs
+
+is-dated-requires : tie.Need-is-dated-requires
+is-dated-requires c κs = search needs
 
 both-requires-2 : tie.Need-both-requires-2
 both-requires-2 c κs = search needs
 
+element-copy-out-t15 : tie.Need-element-copy-out-t15
+element-copy-out-t15 c = search needs
+
+element-copy-out-t18 : tie.Need-element-copy-out-t18
+element-copy-out-t18 c = search needs
+
+element-copy-out-t21 : tie.Need-element-copy-out-t21
+element-copy-out-t21 c = search needs
+
+element-copy-out-t24 : tie.Need-element-copy-out-t24
+element-copy-out-t24 c = search needs
+
 returns : tie.Need-returns
 returns c =
-    let b1 = c .before in
-    let b2 = b1 .before in
-    let b3 = b2 .before in
-    let b4 = b3 .before in
+    let b4 = c .before .before .before .before in
     let b5 = b4 .before in
-    let b7 = b5 .before .before in
-    let b8 = b7 .before in
-    let l = b8 .before .before .args .line .now in
-    let d = date-at l _ _ (b8 .after-tag .ensures) (b7 .date-fields .ensures) in
-    let i = b5 .number .ensures in
-    let r = number-past l _ _ _ 4 (d .rest) i (b4 .after .ensures) in
-    reading-read l _ _ _ _ _ _ _ d (number-at l _ _ 4 (d .rest) i) (field-of l _ _ 5 r (b3 .field .ensures)) (b2 .kind-of .ensures) (b1 .both .ensures) (c .both2 .ensures)
+    let b6 = b5 .before in
+    let b7 = b6 .before in
+    let b9 = b7 .before .before in
+    λ l w. reading-read (b9 .before .before .args .t1) l w _ _ _ _ _ (b9 .kind-of .ensures) (b7 .is-number .ensures) (b6 .both .ensures) (b5 .is-dated .ensures l w) (b4 .both2 .ensures)
 
 pub read-reading-spec : {M : Type 1} → statement M
 read-reading-spec =
     tie.close
     (tie.spec
-    after-tag-requires
-    date-fields-requires
-    sub-after-date
-    part-after-date-start
-    part-after-date-end
-    number-requires
-    after-requires
-    field-requires
+    element-copy-out-kind-of
     kind-of-requires
+    element-copy-out-is-number
+    is-number-requires
     both-requires
+    is-dated-requires
     both-requires-2
+    element-copy-out-t15
+    element-copy-out-t18
+    element-copy-out-t21
+    element-copy-out-t24
     returns)

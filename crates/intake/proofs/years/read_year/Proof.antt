@@ -1,20 +1,22 @@
+use Rattle.intake.proofs.Readers.{year-read}
 use borrow.Author.Needs.{needs}
-use Rattle.intake.proofs.Fields.{after-tag}
-use Rattle.intake.proofs.Readers.{number-at, year-read}
 use Rattle.intake.proofs.years.read_year.Statement.{statement}
 use Rattle.intake.proofs.years.read_year.Tie as tie
 
-after-tag-requires : tie.Need-after-tag-requires
-after-tag-requires c κs = search needs
+element-copy-out-is-number : tie.Need-element-copy-out-is-number
+element-copy-out-is-number c = search needs
 
-number-requires : tie.Need-number-requires
-number-requires c κs = search needs
+is-number-requires : tie.Need-is-number-requires
+is-number-requires c κs = search needs
+
+element-copy-out-t9 : tie.Need-element-copy-out-t9
+element-copy-out-t9 c = search needs
 
 returns : tie.Need-returns
 returns c =
     let b1 = c .before in
-    let l = b1 .before .before .args .line .now in
-    year-read l _ (number-at l _ _ 1 (after-tag l _ (b1 .after-tag .ensures)) (c .number .ensures))
+    λ l w. year-read (b1 .before .before .args .t1) l w _ (b1 .is-number .ensures)
 
 pub read-year-spec : {M : Type 1} → statement M
-read-year-spec = tie.close (tie.spec after-tag-requires number-requires returns)
+read-year-spec =
+    tie.close (tie.spec element-copy-out-is-number is-number-requires element-copy-out-t9 returns)

@@ -15,15 +15,13 @@ first-requires c κs = search needs
 
 returns : tie.Need-returns
 unfolding endJudged
-returns c =
+returns c l w k =
     let b1 = c .before in
     let b2 = b1 .before in
     let b3 = b2 .before in
     let b4 = b3 .before in
     let b5 = b4 .before in
-    let b6 = b5 .before in
-    let b7 = b6 .before in
-    rw (end-number _ _ _ (b7 .pre) (b5 .read-count .result) _ _ (b5 .read-count .ensures) (b4 .is-late .ensures) (c .first .ensures))
+    rw (end-number _ _ _ k (b5 .read-count .result) _ _ (b5 .read-count .ensures l w) (b4 .is-late .ensures) (c .first .ensures))
 
 pub judge-end-spec : {M : Type 1} → statement M
 judge-end-spec = tie.close (tie.spec read-count-requires is-late-requires first-requires returns)

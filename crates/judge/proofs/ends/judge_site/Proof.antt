@@ -1,7 +1,8 @@
 use mathlib.Core.Path.{_≡_}
 use borrow.Author.Needs.{needs}
+use Rattle.meaning.specs.Line.{S}
 use Rattle.meaning.specs.Refusals.{refusal}
-use Rattle.judge.specs.Before.{beforeFirst}
+use Rattle.judge.specs.Before.{OfTag, beforeFirst}
 use Rattle.judge.specs.Order.{numberBy}
 use Rattle.judge.proofs.Judged.{site-refused, site-taken}
 use Rattle.judge.proofs.ByTag.{site-number, site-is}
@@ -32,8 +33,8 @@ is-too-soon-requires c κs = search needs
 first-requires : tie.Need-first-requires
 first-requires c κs = search needs
 
-number : (c : tie.After-first) → let a = c .before .before .before .before .before .before .before .before .before .before .before .args in c .first .result ≡ numberBy (refusal (beforeFirst (a .last)) (a .line .now))
-number c =
+number : (c : tie.After-first) → let a = c .before .before .before .before .before .before .before .before .before .before .args in OfTag S (a .told) (λ l. c .first .result ≡ numberBy (refusal (beforeFirst (a .last)) l))
+number c l w k =
     let b1 = c .before in
     let b2 = b1 .before in
     let b3 = b2 .before in
@@ -43,15 +44,13 @@ number c =
     let b7 = b6 .before in
     let b8 = b7 .before in
     let b9 = b8 .before in
-    let b10 = b9 .before in
-    let b11 = b10 .before in
-    site-number _ _ (b11 .pre) (b9 .read-site .result) _ _ _ _ _ _ _ (b9 .read-site .ensures) (b7 .is-within .ensures) (b6 .is-within2 .ensures) (b5 .both .ensures) (b4 .is-within3 .ensures) (b3 .both2 .ensures) (b2 .is-too-soon .ensures) (c .first .ensures)
+    site-number _ _ k (b9 .read-site .result) _ _ _ _ _ _ _ (b9 .read-site .ensures l w) (b7 .is-within .ensures) (b6 .is-within2 .ensures) (b5 .both .ensures) (b4 .is-within3 .ensures) (b3 .both2 .ensures) (b2 .is-too-soon .ensures) (c .first .ensures)
 
 returns : tie.Need-returns
-returns c = site-refused _ _ _ (number (c .before)) (c .if1 .taken)
+returns c l w k = site-refused _ _ _ (number (c .before) l w k) (c .if1 .taken)
 
 returns-2 : tie.Need-returns-2
-returns-2 c =
+returns-2 c l w k =
     let b1 = c .before in
     let b2 = b1 .before in
     let b3 = b2 .before in
@@ -62,9 +61,7 @@ returns-2 c =
     let b8 = b7 .before in
     let b9 = b8 .before in
     let b10 = b9 .before in
-    let b11 = b10 .before in
-    let b12 = b11 .before in
-    site-taken _ _ _ (number b1) (b10 .read-site .result .site) (c .if1 .left) (site-is _ _ (b12 .pre) (b10 .read-site .result) (b10 .read-site .ensures))
+    site-taken _ _ _ (number b1 l w k) (b10 .read-site .result .site) (c .if1 .left) (site-is _ _ k (b10 .read-site .result) (b10 .read-site .ensures l w))
 
 pub judge-site-spec : {M : Type 1} → statement M
 judge-site-spec =

@@ -1,8 +1,9 @@
 use mathlib.Core.Path.{_≡_}
 use borrow.Author.Needs.{needs}
 use Rattle.calendar.specs.Spans.{historyYears}
+use Rattle.meaning.specs.Line.{R}
 use Rattle.meaning.specs.Refusals.{refusal}
-use Rattle.judge.specs.Before.{beforeRising}
+use Rattle.judge.specs.Before.{OfTag, beforeRising}
 use Rattle.judge.specs.Order.{numberBy}
 use Rattle.judge.proofs.Judged.{rate-refused, rate-taken}
 use Rattle.judge.proofs.ByTag.{rate-number, rate-numbers}
@@ -33,8 +34,8 @@ is-reached-requires c κs = search needs
 first-requires : tie.Need-first-requires
 first-requires c κs = search needs
 
-number : (c : tie.After-first) → let a = c .before .before .before .before .before .before .before .before .before .before .args in c .first .result ≡ numberBy (refusal (beforeRising (a .last) (historyYears (a .al) (a .filiere)) (a .latest)) (a .line .now))
-number c =
+number : (c : tie.After-first) → let a = c .before .before .before .before .before .before .before .before .before .args in OfTag R (a .told) (λ l. c .first .result ≡ numberBy (refusal (beforeRising (a .last) (historyYears (a .al) (a .filiere)) (a .latest)) l))
+number c l w k =
     let b1 = c .before in
     let b2 = b1 .before in
     let b3 = b2 .before in
@@ -43,15 +44,13 @@ number c =
     let b6 = b5 .before in
     let b7 = b6 .before in
     let b8 = b7 .before in
-    let b9 = b8 .before in
-    let b10 = b9 .before in
-    rate-number _ _ _ _ _ (b10 .pre) (b8 .read-rate .result) (b6 .history .result) _ _ _ _ _ _ (b8 .read-rate .ensures) (b7 .is-late .ensures) (b6 .history .ensures) (b5 .is-among .ensures) (b4 .is-within .ensures) (b3 .both .ensures) (b2 .is-reached .ensures) (c .first .ensures)
+    rate-number _ _ _ _ _ k (b8 .read-rate .result) (b6 .history .result) _ _ _ _ _ _ (b8 .read-rate .ensures l w) (b7 .is-late .ensures) (b6 .history .ensures) (b5 .is-among .ensures) (b4 .is-within .ensures) (b3 .both .ensures) (b2 .is-reached .ensures) (c .first .ensures)
 
 returns : tie.Need-returns
-returns c = rate-refused _ _ _ (number (c .before)) (c .if1 .taken)
+returns c l w k = rate-refused _ _ _ (number (c .before) l w k) (c .if1 .taken)
 
 returns-2 : tie.Need-returns-2
-returns-2 c =
+returns-2 c l w k =
     let b1 = c .before in
     let b2 = b1 .before in
     let b3 = b2 .before in
@@ -61,9 +60,7 @@ returns-2 c =
     let b7 = b6 .before in
     let b8 = b7 .before in
     let b9 = b8 .before in
-    let b10 = b9 .before in
-    let b11 = b10 .before in
-    rate-taken _ _ _ (number b1) (b9 .read-rate .result .year) (b9 .read-rate .result .rate) (c .if1 .left) (rate-numbers _ _ _ _ _ (b11 .pre) (b9 .read-rate .result) (b9 .read-rate .ensures))
+    rate-taken _ _ _ (number b1 l w k) (b9 .read-rate .result .year) (b9 .read-rate .result .rate) (c .if1 .left) (rate-numbers _ _ _ _ _ k (b9 .read-rate .result) (b9 .read-rate .ensures l w))
 
 pub judge-rate-spec : {M : Type 1} → statement M
 judge-rate-spec =

@@ -3,8 +3,11 @@ use Rattle.tags.proofs.Tags.{known, not-known}
 use Rattle.tags.proofs.form.known_tag.Statement.{statement}
 use Rattle.tags.proofs.form.known_tag.Tie as tie
 
-tag-requires : tie.Need-tag-requires
-tag-requires c κs = search needs
+element-copy-out-rank-of : tie.Need-element-copy-out-rank-of
+element-copy-out-rank-of c = search needs
+
+rank-of-requires : tie.Need-rank-of-requires
+rank-of-requires c κs = search needs
 
 field-count-requires : tie.Need-field-count-requires
 field-count-requires c κs = search needs
@@ -13,15 +16,15 @@ returns : tie.Need-returns
 returns c =
     let b1 = c .before in
     let b2 = b1 .before in
-    let s = b2 .before .before .args in
-    known (s .line .now) _ (s .n) _ (b2 .tag .ensures) (b1 .field-count .ensures) (c .if1 .taken)
+    λ l w. known (b2 .before .before .args .t1) _ _ (b2 .rank-of .ensures) (b1 .field-count .ensures) l w (c .if1 .taken)
 
 returns-2 : tie.Need-returns-2
 returns-2 c =
     let b1 = c .before in
     let b2 = b1 .before in
-    let s = b2 .before .before .args in
-    not-known (s .line .now) _ (s .n) _ (b2 .tag .ensures) (b1 .field-count .ensures) (c .if1 .left)
+    λ l w. not-known (b2 .before .before .args .t1) _ _ (b2 .rank-of .ensures) (b1 .field-count .ensures) l w (c .if1 .left)
 
 pub known-tag-spec : {M : Type 1} → statement M
-known-tag-spec = tie.close (tie.spec tag-requires field-count-requires returns returns-2)
+known-tag-spec =
+    tie.close
+    (tie.spec element-copy-out-rank-of rank-of-requires field-count-requires returns returns-2)

@@ -15,24 +15,23 @@ answer-requires : tie.Need-answer-requires
 answer-requires c κs = search needs
 
 returns : tie.Need-returns
-returns c =
+returns c l told k =
     let b2 = c .before .before in
-    let a = c .before .before .before .before in
+    let a = c .before .before .before in
     let s = openRec (a .args .count) (a .args .progress) in
     let w = noBlock in
     answered (a .args .count) w (c .answer .result) _ _ (c .answer .ensures)
-    ∙ step-refused s (a .args .line .now) w _ (end-number s (a .args .line .now) (a .pre) _ (b2 .judge-end .ensures)) (c .before .if1 .taken)
+    ∙ step-refused s l w _ (end-number s l k _ (b2 .judge-end .ensures l told k)) (c .before .if1 .taken)
 
 answer-requires-2 : tie.Need-answer-requires-2
 answer-requires-2 c κs = search needs
 
 returns-2 : tie.Need-returns-2
-returns-2 c =
-    let a = c .before .before .before .before in
-    let l = a .args .line .now in
+returns-2 c l told k =
+    let a = c .before .before .before in
     let s = openRec (a .args .count) (a .args .progress) in
     answered (a .args .count) noBlock (c .answer2 .result) _ _ (c .answer2 .ensures)
-    ∙ took-E s l (end-none s l (a .pre) _ (c .before .before .judge-end .ensures) (c .before .if1 .left)) (a .pre .tag)
+    ∙ took-E s l (end-none s l k _ (c .before .before .judge-end .ensures l told k) (c .before .if1 .left)) (k .tag)
 
 pub end-line-spec : {M : Type 1} → statement M
 end-line-spec = tie.close (tie.spec judge-end-requires answer-requires returns answer-requires-2 returns-2)

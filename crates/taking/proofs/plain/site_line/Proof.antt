@@ -15,26 +15,25 @@ answer-requires : tie.Need-answer-requires
 answer-requires c κs = search needs
 
 returns : tie.Need-returns
-returns c =
+returns c l told k =
     let b2 = c .before .before in
-    let a = c .before .before .before .before in
+    let a = c .before .before .before in
     λ n. let s = openRec n (a .args .progress) in
     let w = noBlock in
     answered n w (c .answer .result) _ _ (c .answer .ensures)
-    ∙ step-refused s (a .args .line .now) w _ (site-number s (a .args .line .now) (a .pre) _ (b2 .judge-site .ensures)) (c .before .if1 .taken)
+    ∙ step-refused s l w _ (site-number s l k _ (b2 .judge-site .ensures l told k)) (c .before .if1 .taken)
 
 answer-requires-2 : tie.Need-answer-requires-2
 answer-requires-2 c κs = search needs
 
 returns-2 : tie.Need-returns-2
-returns-2 c =
-    let a = c .before .before .before .before .before in
-    let l = a .args .line .now in
-    let e = c .before .before .before .judge-site .ensures in
+returns-2 c l told k =
+    let a = c .before .before .before .before in
+    let e = c .before .before .before .judge-site .ensures l told k in
     let z = c .before .before .if1 .left in
     λ n. let s = openRec n (a .args .progress) in
     answered n noBlock (c .answer2 .result) _ _ (c .answer2 .ensures)
-    ∙ took-S s l (site-none s l (a .pre) _ e z) (a .pre .tag) _ (site-site s l (a .pre) _ e z)
+    ∙ took-S s l (site-none s l k _ e z) (k .tag) _ (site-site s l k _ e z)
 
 pub site-line-spec : {M : Type 1} → statement M
 site-line-spec = tie.close (tie.spec judge-site-requires answer-requires returns answer-requires-2 returns-2)

@@ -16,29 +16,30 @@ answer-requires : tie.Need-answer-requires
 answer-requires c κs = search needs
 
 returns : tie.Need-returns
-returns c =
+returns c l told k =
     let b2 = c .before .before in
-    let a = c .before .before .before .before .before .before in
+    let a = c .before .before .before .before .before in
     λ n. let s = openRec n (a .args .progress) in
     let w = noBlock in
     answered n w (c .answer .result) _ _ (c .answer .ensures)
-    ∙ step-refused s (a .args .line .now) w _ (reading-number s (a .args .line .now) (a .pre) _ (b2 .judge-reading .ensures)) (c .before .if1 .taken)
+    ∙ step-refused s l w _ (reading-number s l k _ (b2 .judge-reading .ensures l told k)) (c .before .if1 .taken)
 
 add-progress : tie.Need-add-progress
 add-progress c =
-    let a = c .before .before .before .before .before .before in
-    let l = a .args .line .now in
+    let a = c .before .before .before .before .before in
+    let l = a .pre .0 in
+    let told = a .pre .1 in
+    let k = a .pre .2 in
     let s = openRec 0 (a .args .progress) in
-    omega (arith, reading-place s l (reading-none s l (a .pre) _ (c .before .before .judge-reading .ensures) (c .before .if1 .left)) (a .pre .tag) .1)
+    omega (arith, reading-place s l (reading-none s l k _ (c .before .before .judge-reading .ensures l told k) (c .before .if1 .left)) (k .tag) .1)
 
 returns-2 : tie.Need-returns-2
-returns-2 c =
-    let a = c .before .before .before .before .before .before in
-    let l = a .args .line .now in
-    let e = c .before .before .judge-reading .ensures in
+returns-2 c l told k =
+    let a = c .before .before .before .before .before in
+    let e = c .before .before .judge-reading .ensures l told k in
     let z = c .before .if1 .left in
     λ n. let s = openRec n (a .args .progress) in
-    took-X s l (reading-none s l (a .pre) _ e z) (a .pre .tag) _ _ _ _ (reading-say s l (a .pre) _ e z)
+    took-X s l (reading-none s l k _ e z) (k .tag) _ _ _ _ (reading-say s l k _ e z)
 
 pub reading-line-spec : {M : Type 1} → statement M
 reading-line-spec = tie.close (tie.spec judge-reading-requires answer-requires returns add-progress returns-2)

@@ -1,0 +1,3 @@
+pub mod Shaped
+pub mod Told
+pub mod Read
