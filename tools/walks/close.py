@@ -1,14 +1,12 @@
 OWN='Rattle.site.proofs.'; SP='Rattle.site.specs.'
 W0='(near .now) (far .now) (slots .now) (daily .now)'
 FACT='EachColumns (length (readings .now)) k (λ rs. endsBack {r} (self .count) (self .progress) (world %s (seen rs) {curve}) ≡ handed (closeOf (view self) (world %s (seen rs) (curve .now))))'%(W0,W0)
-OF='LL.owed T.the-type T′.the-laws self _ self-is'
 D=dict(
   crate='site', fn='Record::close', cwd='.',
   params=[('self','value','T'),('near','shr','u32'),('far','shr','u32'),('slots','shr','u16'),('daily','shr','u32'),('readings','shr','R'),('curve','mut','u64')],
   types=dict(
     T=dict(name='Record',mod=OWN+'Record',decl='Record',**{'decl-mod':SP+'declared.Record'}),
     S=dict(name='Ended',mod='Rattle.ending.proofs.Ended',decl='Ended',**{'decl-mod':'Rattle.ending.specs.declared.Ended'}),
-    G=dict(name='Progress',mod='Rattle.taking.proofs.Progress',decl='Progress',**{'decl-mod':'Rattle.taking.specs.declared.Progress'}),
     O=dict(name='Closed',mod=OWN+'Closed',decl='Closed',**{'decl-mod':SP+'declared.Closed'}),
     B=dict(name='Columns',mod='Rattle.readings.proofs.Columns',decl='Columns',**{'decl-mod':'Rattle.readings.specs.declared.Columns'}),
     R=dict(name='Reading',mod='Rattle.readings.proofs.Reading',decl='Reading',**{'decl-mod':'Rattle.readings.specs.declared.Reading'}),
@@ -17,9 +15,9 @@ D=dict(
   calls=[
     dict(fn='columns_of',al='columns-of',Name='ColumnsOf',n='₁',mod='Rattle.readings.proofs.columns_of',key='#readings·columns-of',
       args=[('ref','readings')],res='B',fact='{r} ≡ columnsOf (readings .now)'),
-    dict(fn='close_blocks',al='close-blocks',Name='CloseBlocks',n='',mod='Rattle.ending.proofs.close_blocks',key='#ending·close-blocks',
+    dict(fn='shut',al='shut',Name='Shut',n='',mod=OWN+'whole.shut',key='#site·whole·shut',
       binds=[('k','Columns'),('v','Val')],proofs=[('k-is','Is B.the-row k (v ∷ [])')],
-      args=[('plain','u64','self .state',OF+' .0 .1'),('plain','u64','self .count',OF+' .1 .0 .1'),('plain','G','self .progress','(%s .1 .1 .0)'%OF),('ref','near','a'),('ref','far','a'),('ref','slots'),('ref','daily'),('plain','B','k','k-is','v ∷ []'),('plain','usize','length (readings .now)','room-readings .0'),('ref','curve')],
+      args=[('plain','T','self','self-is'),('ref','near','a'),('ref','far','a'),('ref','slots'),('ref','daily'),('plain','B','k','k-is','v ∷ []'),('plain','usize','length (readings .now)','room-readings .0'),('ref','curve')],
       res='S',fact=FACT.replace(' k ',' r₁ '),
       **{'bind-terms':['r₁','w₁'],'proof-terms':['is₁'],'subst':{'k':'r₁'}}),
     dict(fn='close_answer',al='close-answer',Name='CloseAnswer',n='₂',mod=OWN+'packing.close_answer',key='#site·packing·close-answer',

@@ -5,21 +5,19 @@ def at_exit(t):
     for p in ('near','far','slots','daily'): t=t.replace('{%s}'%p,p+'′')
     return t
 def field(k): return 'LL.owed S.the-type S′.the-laws r _ is'+' .1'*k+' .0'
-OF='LL.owed T.the-type T′.the-laws self _ self-is'
 D=dict(
   crate='site', fn='Record::line', cwd='.',
   params=[('self','value','T'),('line','shr','u8'),('near','mut','u32'),('far','mut','u32'),('slots','mut','u16'),('daily','mut','u32'),('readings','mut','R'),('curve','shr','u64')],
   types=dict(
     T=dict(name='Record',mod=OWN+'Record',decl='Record',**{'decl-mod':SP+'declared.Record'}),
     S=dict(name='Heard',mod='Rattle.hearing.proofs.Heard',decl='Heard',**{'decl-mod':'Rattle.hearing.specs.declared.Heard'}),
-    G=dict(name='Progress',mod='Rattle.taking.proofs.Progress',decl='Progress',**{'decl-mod':'Rattle.taking.specs.declared.Progress'}),
     O=dict(name='Opened',mod=OWN+'Opened',decl='Opened',**{'decl-mod':SP+'declared.Opened'}),
     R=dict(name='Reading',mod='Rattle.readings.proofs.Reading',decl='Reading',**{'decl-mod':'Rattle.readings.specs.declared.Reading'}),
   ),
   imports=['use Rattle.meaning.specs.Blocks.{World}','use Rattle.meaning.specs.Calls.{lineOf}','use Rattle.readings.specs.Readings.{seen}','use Rattle.readings.specs.Columns.{world}','use Rattle.readings.specs.Lent.{EachLent}','use Rattle.hearing.specs.Heard.{hearsBack}','use Rattle.site.specs.Views.{view, handsBack}'],
   calls=[
-    dict(fn='hear_line',al='hear-line',Name='HearLine',n='',mod='Rattle.hearing.proofs.hear_line',key='#hearing·hear-line',
-      args=[('plain','u64','self .state',OF+' .0 .1'),('plain','u64','self .count',OF+' .1 .0 .1'),('plain','G','self .progress','(%s .1 .1 .0)'%OF),('ref','line'),('ref','near'),('ref','far'),('ref','slots'),('ref','daily'),('plain','usize','length (readings .now)','room-readings .0'),('plain','usize','length (curve .now)','room-curve .0')],
+    dict(fn='hear',al='hear',Name='Hear',n='',mod=OWN+'whole.hear',key='#site·whole·hear',
+      args=[('plain','T','self','self-is'),('ref','line'),('ref','near'),('ref','far'),('ref','slots'),('ref','daily'),('plain','usize','length (readings .now)','room-readings .0'),('plain','usize','length (curve .now)','room-curve .0')],
       res='S',apart=True,fact=FACT),
     dict(fn='put',al='put',Name='PutR',n='₁',mod='Rattle.readings.proofs.put',key='#readings·put',
       binds=[('r','Heard'),('w','Val')],proofs=[('is','Is S.the-row r (w ∷ [])')],

@@ -1,8 +1,9 @@
 // A line of a piece, given to a record.
 use readings::Reading;
 use turns::Turn;
-use turns::line_in;
-use turns::next_turn;
+use turns::line_of;
+use turns::record_of;
+use turns::turn_after;
 ghost use Rattle.readings.specs.Readings.{seen};
 ghost use Rattle.readings.specs.Columns.{world};
 ghost use Rattle.turns.specs.Gives.{Gives};
@@ -20,8 +21,8 @@ pub fn give(
 ) -> Turn
     ensures { λ r. ⌜ Gives r turn (now (piece .entry)) (world (now (near .entry)) (now (far .entry)) (now (slots .entry)) (now (daily .entry)) (seen (now (readings .entry))) (now (curve .entry))) (world (now (near .exit)) (now (far .exit)) (now (slots .exit)) (now (daily .exit)) (seen (now (readings .exit))) (now (curve .entry))) ⌝ }
 {
-    let line = line_in(piece, turn.from, turn.to);
-    let opened = turn.record
-        .line(line, near, far, slots, daily, readings, curve);
-    next_turn(opened, piece, turn.past)
+    let line = line_of(turn, piece);
+    let record = record_of(turn);
+    let opened = record.line(line, near, far, slots, daily, readings, curve);
+    turn_after(opened, turn, piece)
 }

@@ -5,7 +5,7 @@ ghost use mathlib.Core.Path.{_≡_};
 ghost use mathlib.Core.Bool.{_&&_, _||_, not};
 ghost use Prim.Native.Nat.{_-_, min};
 ghost use lib.Dec.{eqb};
-ghost use Rattle.numbers.specs.Numbers.{isDigit, isDash, most};
+ghost use Rattle.numbers.specs.Numbers.{isDigit, most};
 
 // Above every range that a field has.
 const MOST: u64 = 1_000_000_000_000_000_000;
@@ -50,14 +50,4 @@ pub fn capped(v: u64) -> u64
     ensures { λ r. ⌜ r ≡ min v most ⌝ }
 {
     if v < MOST { v } else { MOST }
-}
-
-// The field that stands for a missing value.
-pub fn is_dash(f: &[u8]) -> bool
-    ensures { λ r. ⌜ r ≡ isDash (now (f .entry)) ⌝ }
-{
-    if f.len() != 1 {
-        return false;
-    }
-    f[0] == 45
 }

@@ -5,8 +5,8 @@ use crate::Record;
 use crate::packing::close_answer;
 use crate::packing::line_answer;
 use crate::packing::open_answer;
-use ending::close_blocks;
-use hearing::hear_line;
+use crate::whole::hear;
+use crate::whole::shut;
 use opening::open_blocks;
 use readings::Reading;
 use readings::columns_of;
@@ -50,10 +50,8 @@ impl Record {
     ) -> Opened
         ensures { λ r. ⌜ handsBack r (world (now (near .exit)) (now (far .exit)) (now (slots .exit)) (now (daily .exit)) (seen (now (readings .exit))) (now (curve .entry))) ≡ lineOf (view self) (now (line .entry)) (world (now (near .entry)) (now (far .entry)) (now (slots .entry)) (now (daily .entry)) (seen (now (readings .entry))) (now (curve .entry))) ⌝ }
     {
-        let heard = hear_line(
-            self.state,
-            self.count,
-            self.progress,
+        let heard = hear(
+            self,
             line,
             near,
             far,
@@ -79,10 +77,8 @@ impl Record {
         ensures { λ r. ⌜ closesBack r (world (now (near .entry)) (now (far .entry)) (now (slots .entry)) (now (daily .entry)) (seen (now (readings .entry))) (now (curve .exit))) ≡ handed (closeOf (view self) (world (now (near .entry)) (now (far .entry)) (now (slots .entry)) (now (daily .entry)) (seen (now (readings .entry))) (now (curve .entry)))) ⌝ }
     {
         let columns = columns_of(readings);
-        let ended = close_blocks(
-            self.state,
-            self.count,
-            self.progress,
+        let ended = shut(
+            self,
             near,
             far,
             slots,

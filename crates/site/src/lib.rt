@@ -5,9 +5,9 @@
 //
 // A call does the work on plain parameters first, and then touches the lent list of readings: it stores one, makes all fresh, or has copied them before.
 mod calls; // opening, line and close
-mod checks; // 1 on the fields of the record
 mod fresh; // a record never opened, and one just opened
 mod packing; // what a call hands back
+mod whole; // the work of a line and of the close
 
 use answers::Answer;
 use closing::Year;

@@ -1,4 +1,4 @@
-// What a line is before its fields are looked at.
-mod form; // a line's tag
+// The tag of a line, and whether the line has the tag's number of fields.
+mod form; // by the line's fields
 
 pub use form::known_tag;

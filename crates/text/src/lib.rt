@@ -1,4 +1,4 @@
-// The text of a file's lines: fields parted by tabs, and what a field holds: a fixed text, or as `numbers` has it a number or a dash.
+// The text of a file's lines: fields parted by tabs, and what a field holds: a fixed text, or as `numbers` has it a number.
 mod bytes; // strange bytes
 mod fields; // fields and the number in one
 

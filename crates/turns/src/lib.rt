@@ -4,8 +4,10 @@ mod next; // the next line of a piece
 
 pub use answered::is_answered;
 use answers::Answer;
-pub use next::line_in;
+pub use next::line_of;
 pub use next::next_turn;
+pub use next::record_of;
+pub use next::turn_after;
 use site::Record;
 
 pub struct Turn {

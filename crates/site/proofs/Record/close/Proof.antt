@@ -1,4 +1,4 @@
--- `site::Record::close` meets its contract: a walk of its MIR, by hand. All that it knows of `columns_of` and `close_blocks` and `close_answer` is that each meets its contract.
+-- `site::Record::close` meets its contract: a walk of its MIR, by hand. All that it knows of `columns_of` and `shut` and `close_answer` is that each meets its contract.
 -- Each `&mut` is given up for good to the call that takes it (`gave-slice`), and what the callee says of its last list is said of the parameter's. A `&` is Copy: one copy of what it owns is passed on, and one is kept for the exit.
 use mathlib.Core.Path.{_≡_, refl, _∙_}
 use Prim.Native.Nat.{ℕ}
@@ -48,7 +48,6 @@ use Rattle.ending.specs.Ends.{endsBack, handed}
 use Rattle.site.specs.Views.{view, closesBack}
 use Rattle.site.specs.declared.Record.{Record}
 use Rattle.ending.specs.declared.Ended.{Ended}
-use Rattle.taking.specs.declared.Progress.{Progress}
 use Rattle.site.specs.declared.Closed.{Closed}
 use Rattle.readings.specs.declared.Columns.{Columns}
 use Rattle.readings.specs.declared.Reading.{Reading}
@@ -56,8 +55,6 @@ use Rattle.site.proofs.Record as T
 use Rattle.site.proofs.Record.Laws as T′
 use Rattle.ending.proofs.Ended as S
 use Rattle.ending.proofs.Ended.Laws as S′
-use Rattle.taking.proofs.Progress as G
-use Rattle.taking.proofs.Progress.Laws as G′
 use Rattle.site.proofs.Closed as O
 use Rattle.site.proofs.Closed.Laws as O′
 use Rattle.readings.proofs.Columns as B
@@ -69,10 +66,10 @@ use Rattle.readings.proofs.columns_of as columns-of
 use Rattle.readings.proofs.columns_of.Symbol as columns-of-def
 use Rattle.readings.proofs.columns_of.Symbol.{name as #readings·columns-of}
 use Rattle.readings.proofs.columns_of.Met as columns-of-thm
-use Rattle.ending.proofs.close_blocks as close-blocks
-use Rattle.ending.proofs.close_blocks.Symbol as close-blocks-def
-use Rattle.ending.proofs.close_blocks.Symbol.{name as #ending·close-blocks}
-use Rattle.ending.proofs.close_blocks.Met as close-blocks-thm
+use Rattle.site.proofs.whole.shut as shut
+use Rattle.site.proofs.whole.shut.Symbol as shut-def
+use Rattle.site.proofs.whole.shut.Symbol.{name as #site·whole·shut}
+use Rattle.site.proofs.whole.shut.Met as shut-thm
 use Rattle.site.proofs.packing.close_answer as close-answer
 use Rattle.site.proofs.packing.close_answer.Symbol as close-answer-def
 use Rattle.site.proofs.packing.close_answer.Symbol.{name as #site·packing·close-answer}
@@ -104,8 +101,8 @@ module _ {M : Type 1} (𝓤 : URA M) (H : Heap 𝓤) (A : Atoms 𝓤) (mem : Mem
   abbrev ColumnsOf : Contract 𝓤
   ColumnsOf = tripleOf 𝓤 H A columns-of.signature (columns-of.spec 𝓤 H A mem run)
 
-  abbrev CloseBlocks : Contract 𝓤
-  CloseBlocks = tripleOf 𝓤 H A close-blocks.signature (close-blocks.spec 𝓤 H A mem run)
+  abbrev Shut : Contract 𝓤
+  Shut = tripleOf 𝓤 H A shut.signature (shut.spec 𝓤 H A mem run)
 
   abbrev CloseAnswer : Contract 𝓤
   CloseAnswer = tripleOf 𝓤 H A close-answer.signature (close-answer.spec 𝓤 H A mem run)
@@ -170,13 +167,13 @@ module _ {M : Type 1} (𝓤 : URA M) (H : Heap 𝓤) (A : Atoms 𝓤) (W : Given
   goes-columns-of =
       qed W (‵ (flft κ₃ q₃) ∷ ‵ Own-readings ∷ []) ∵ nothing ! $ move ! (2 ∷ 0 ∷ []) $ fjoin ! $ nothing ! $ move ! (2 ∷ 0 ∷ []) $ join ! $ join ! $ frame ! $ done !
 
-  -- `close_blocks`: what it is passed, and that the caller has what it asks
-  abbrev to-close-blocks : (k : Columns) (v : Val) → CloseBlocks 𝓤 H A mem run .Ghost
-  to-close-blocks k v = (((κ₀, (κ₁, (κ₂, (κ₄, tt)))), (q₀, (q₁, (q₂, (q₄, tt)))), tt, (self .state, (self .count, (self .progress, (near, (far, (slots, (daily, (k, (length (readings .now), (curve, tt)))))))))), (vint w64 (self .state) ∷ [], (vint w64 (self .count) ∷ [], (LL.vals G.the-type G′.the-laws (self .progress), (v-near ∷ [], (v-far ∷ [], (v-slots ∷ [], (v-daily ∷ [], (v ∷ [], (vint w64 (length (readings .now)) ∷ [], (v-curve ∷ [], tt))))))))))), tt)
+  -- `shut`: what it is passed, and that the caller has what it asks
+  abbrev to-shut : (k : Columns) (v : Val) → Shut 𝓤 H A mem run .Ghost
+  to-shut k v = (((κ₀, (κ₁, (κ₂, (κ₄, tt)))), (q₀, (q₁, (q₂, (q₄, tt)))), tt, (self, (near, (far, (slots, (daily, (k, (length (readings .now), (curve, tt)))))))), (LL.vals T.the-type T′.the-laws (self), (v-near ∷ [], (v-far ∷ [], (v-slots ∷ [], (v-daily ∷ [], (v ∷ [], (vint w64 (length (readings .now)) ∷ [], (v-curve ∷ [], tt))))))))), tt)
 
-  goes-close-blocks : (k : Columns) (v : Val) → (k-is : Is B.the-row k (v ∷ [])) → ent 𝓤 (⋆ 𝓤 H A (‵ (flft κ₀ q₀) ∷ ‵ (flft κ₁ q₁) ∷ ‵ (flft κ₂ q₂) ∷ ‵ (flft κ₄ q₄) ∷ ‵ Own-near ∷ ‵ Own-far ∷ ‵ Own-slots ∷ ‵ Own-daily ∷ ‵ Own-curve ∷ [])) (CloseBlocks 𝓤 H A mem run .pre (to-close-blocks k v))
-  goes-close-blocks k v k-is =
-      qed W (‵ (flft κ₀ q₀) ∷ ‵ (flft κ₁ q₁) ∷ ‵ (flft κ₂ q₂) ∷ ‵ (flft κ₄ q₄) ∷ ‵ Own-near ∷ ‵ Own-far ∷ ‵ Own-slots ∷ ‵ Own-daily ∷ ‵ Own-curve ∷ []) ∵ nothing ! $ move ! (9 ∷ 0 ∷ []) $ fjoin ! $ owned ! usize (Is usize) (uint-makes 𝓤 H A W w64) (length (readings .now)) _ (refl, room-readings .0) $ fjoin ! $ owned ! B.the-row (Is B.the-row) (LL.makes B.the-type B′.the-plain 𝓤 H A) (k) _ k-is $ fjoin ! $ move ! (8 ∷ 0 ∷ []) $ fjoin ! $ move ! (7 ∷ 0 ∷ []) $ fjoin ! $ move ! (6 ∷ 0 ∷ []) $ fjoin ! $ move ! (5 ∷ 0 ∷ []) $ fjoin ! $ owned ! G.the-row (Is G.the-row) (LL.makes G.the-type G′.the-plain 𝓤 H A) (self .progress) _ (LL.owed T.the-type T′.the-laws self _ self-is .1 .1 .0) $ fjoin ! $ owned ! u64 (Is u64) (uint-makes 𝓤 H A W w64) (self .count) _ (refl, LL.owed T.the-type T′.the-laws self _ self-is .1 .0 .1) $ fjoin ! $ owned ! u64 (Is u64) (uint-makes 𝓤 H A W w64) (self .state) _ (refl, LL.owed T.the-type T′.the-laws self _ self-is .0 .1) $ fjoin ! $ nothing ! $ move ! (5 ∷ 0 ∷ []) $ join ! $ move ! (4 ∷ 0 ∷ []) $ join ! $ move ! (3 ∷ 0 ∷ []) $ join ! $ move ! (2 ∷ 0 ∷ []) $ join ! $ join ! $ frame ! $ done !
+  goes-shut : (k : Columns) (v : Val) → (k-is : Is B.the-row k (v ∷ [])) → ent 𝓤 (⋆ 𝓤 H A (‵ (flft κ₀ q₀) ∷ ‵ (flft κ₁ q₁) ∷ ‵ (flft κ₂ q₂) ∷ ‵ (flft κ₄ q₄) ∷ ‵ Own-near ∷ ‵ Own-far ∷ ‵ Own-slots ∷ ‵ Own-daily ∷ ‵ Own-curve ∷ [])) (Shut 𝓤 H A mem run .pre (to-shut k v))
+  goes-shut k v k-is =
+      qed W (‵ (flft κ₀ q₀) ∷ ‵ (flft κ₁ q₁) ∷ ‵ (flft κ₂ q₂) ∷ ‵ (flft κ₄ q₄) ∷ ‵ Own-near ∷ ‵ Own-far ∷ ‵ Own-slots ∷ ‵ Own-daily ∷ ‵ Own-curve ∷ []) ∵ nothing ! $ move ! (9 ∷ 0 ∷ []) $ fjoin ! $ owned ! usize (Is usize) (uint-makes 𝓤 H A W w64) (length (readings .now)) _ (refl, room-readings .0) $ fjoin ! $ owned ! B.the-row (Is B.the-row) (LL.makes B.the-type B′.the-plain 𝓤 H A) (k) _ k-is $ fjoin ! $ move ! (8 ∷ 0 ∷ []) $ fjoin ! $ move ! (7 ∷ 0 ∷ []) $ fjoin ! $ move ! (6 ∷ 0 ∷ []) $ fjoin ! $ move ! (5 ∷ 0 ∷ []) $ fjoin ! $ owned ! T.the-row (Is T.the-row) (LL.makes T.the-type T′.the-plain 𝓤 H A) (self) _ self-is $ fjoin ! $ nothing ! $ move ! (5 ∷ 0 ∷ []) $ join ! $ move ! (4 ∷ 0 ∷ []) $ join ! $ move ! (3 ∷ 0 ∷ []) $ join ! $ move ! (2 ∷ 0 ∷ []) $ join ! $ join ! $ frame ! $ done !
 
   -- `close_answer`: what it is passed, and that the caller has what it asks
   abbrev to-close-answer : (r : Ended) (w : Val) → CloseAnswer 𝓤 H A mem run .Ghost
@@ -204,14 +201,14 @@ module _ {M : Type 1} (𝓤 : URA M) (H : Heap 𝓤) (A : Atoms 𝓤) (W : Given
     left w w₁ k r r₂ w₂ curve′ is₂ e₁ e e₂ l-curve =
         gone ! $ gone ! $ gone ! $ gone ! $ gone ! $ gone ! $ gone ! $ gone ! $ gone ! $ gone ! $ gone ! $ gone ! $ gone ! $ free0 ! $ by ! (exits k r r₂ w₂ curve′ is₂ e₁ e e₂ l-curve)
 
-  module _ (C : Calls 𝓤 H) (Λ : Loops 𝓤 H) (fm : FmC 𝓤 H (W .laws) C) (known-columns-of : Triple 𝓤 (C #readings·columns-of) (ColumnsOf 𝓤 H A mem run)) (known-close-blocks : Triple 𝓤 (C #ending·close-blocks) (CloseBlocks 𝓤 H A mem run)) (known-close-answer : Triple 𝓤 (C #site·packing·close-answer) (CloseAnswer 𝓤 H A mem run)) where
+  module _ (C : Calls 𝓤 H) (Λ : Loops 𝓤 H) (fm : FmC 𝓤 H (W .laws) C) (known-columns-of : Triple 𝓤 (C #readings·columns-of) (ColumnsOf 𝓤 H A mem run)) (known-shut : Triple 𝓤 (C #site·whole·shut) (Shut 𝓤 H A mem run)) (known-close-answer : Triple 𝓤 (C #site·packing·close-answer) (CloseAnswer 𝓤 H A mem run)) where
     module _ (l₀ l₁ l₂ l₃ l₄ l₅ l₆ l₇ l₈ l₉ l₁₀ l₁₁ l₁₂ : ℕ) where
       after-close-answer : (r₁ : Columns) (w₁ : Val) (is₁ : Is B.the-row r₁ (w₁ ∷ [])) (e₁ : r₁ ≡ columnsOf (readings .now)) (r : Ended) (w : Val) (curve′ : List ℕ) (is : Is S.the-row r (w ∷ [])) (e : EachColumns (length (readings .now)) r₁ (λ rs. endsBack r (self .count) (self .progress) (world (near .now) (far .now) (slots .now) (daily .now) (seen rs) curve′) ≡ handed (closeOf (view self) (world (near .now) (far .now) (slots .now) (daily .now) (seen rs) (curve .now))))) (l-curve : length curve′ ≡ length (curve .now)) (r₂ : Closed) (w₂ : Val) (is₂ : Is O.the-row r₂ (w₂ ∷ [])) (e₂ : (x : World) → closesBack r₂ x ≡ endsBack r (self .count) (self .progress) x) → Sq W (‵ (flft κ₄ q₄) ∷ ‵ (flft κ₂ q₂) ∷ ‵ (flft κ₁ q₁) ∷ ‵ (flft κ₀ q₀) ∷ ‵ (finally u64 (curve .name) curve′) ∷ ‵ (flft κ₃ q₃) ∷ ‵ Own-near ∷ ‵ Own-far ∷ ‵ Own-slots ∷ ‵ Own-daily ∷ ‵ Own-readings ∷ ‵ (fat fullShare (sliceTy (tyRef erased mut (tyInt w64))) l₁₂ 0 v-curve) ∷ ‵ (fdies (sliceTy (tyRef erased mut (tyInt w64))) l₁₂) ∷ ‵ (fat fullShare (tyRef erased mut (tyInt w64)) l₁₁ 0 (vptr (curve .ptr .0) (curve .ptr .1))) ∷ ‵ (fdies (tyRef erased mut (tyInt w64)) l₁₁) ∷ ‵ (fat fullShare (tyInt w64) l₁₀ 0 (vint w64 (length (readings .now)))) ∷ ‵ (fdies (tyInt w64) l₁₀) ∷ ‵ (fat fullShare tyS l₉ 0 w) ∷ ‵ (fdies tyS l₉) ∷ ‵ (fat fullShare tyB l₈ 0 w₁) ∷ ‵ (fdies tyB l₈) ∷ ‵ (fat fullShare (sliceTy (tyRef (named 4) mut (tyInt w64))) l₇ 0 v-curve) ∷ ‵ (fdies (sliceTy (tyRef (named 4) mut (tyInt w64))) l₇) ∷ ‵ (fat fullShare (sliceTy (tyRef (named 3) imm (pointee (R.the-row .written)))) l₆ 0 v-readings) ∷ ‵ (fdies (sliceTy (tyRef (named 3) imm (pointee (R.the-row .written)))) l₆) ∷ ‵ (fat fullShare (sliceTy (tyRef (named 2) imm (tyInt w32))) l₅ 0 v-daily) ∷ ‵ (fdies (sliceTy (tyRef (named 2) imm (tyInt w32))) l₅) ∷ ‵ (fat fullShare (sliceTy (tyRef (named 1) imm (tyInt w16))) l₄ 0 v-slots) ∷ ‵ (fdies (sliceTy (tyRef (named 1) imm (tyInt w16))) l₄) ∷ ‵ (fat fullShare (sliceTy (tyRef (named 0) imm (tyInt w32))) l₃ 0 v-far) ∷ ‵ (fdies (sliceTy (tyRef (named 0) imm (tyInt w32))) l₃) ∷ ‵ (fat fullShare (sliceTy (tyRef (named 0) imm (tyInt w32))) l₂ 0 v-near) ∷ ‵ (fdies (sliceTy (tyRef (named 0) imm (tyInt w32))) l₂) ∷ ‵ (fat fullShare tyT l₁ 0 (LL.val T.the-type T′.the-laws self)) ∷ ‵ (fdies tyT l₁) ∷ ‵ (fat fullShare tyO l₀ 0 w₂) ∷ ‵ (fdies tyO l₀) ∷ []) (runs C Λ (En l₀ l₁ l₂ l₃ l₄ l₅ l₆ l₇ l₈ l₉ l₁₀ l₁₁ l₁₂) pieces.t-7 (atRet (En l₀ l₁ l₂ l₃ l₄ l₅ l₆ l₇ l₈ l₉ l₁₀ l₁₁ l₁₂) Post))
       after-close-answer r₁ w₁ is₁ e₁ r w curve′ is e l-curve r₂ w₂ is₂ e₂ =
           returns ! (look ! 35 refl) $ keep ! (35 ∷ 36 ∷ 33 ∷ 34 ∷ 31 ∷ 32 ∷ 29 ∷ 30 ∷ 27 ∷ 28 ∷ 25 ∷ 26 ∷ 23 ∷ 24 ∷ 21 ∷ 22 ∷ 19 ∷ 20 ∷ 17 ∷ 18 ∷ 15 ∷ 16 ∷ 13 ∷ 14 ∷ 11 ∷ 12 ∷ 3 ∷ 2 ∷ 1 ∷ 5 ∷ 0 ∷ 4 ∷ 6 ∷ 7 ∷ 8 ∷ 9 ∷ 10 ∷ []) $ left l₀ l₁ l₂ l₃ l₄ l₅ l₆ l₇ l₈ l₉ l₁₀ l₁₁ l₁₂ w w₁ r₁ r r₂ w₂ curve′ is₂ e₁ e e₂ l-curve
 
-      after-close-blocks : (r₁ : Columns) (w₁ : Val) (is₁ : Is B.the-row r₁ (w₁ ∷ [])) (e₁ : r₁ ≡ columnsOf (readings .now)) (r : Ended) (w : Val) (curve′ : List ℕ) (is : Is S.the-row r (w ∷ [])) (e : EachColumns (length (readings .now)) r₁ (λ rs. endsBack r (self .count) (self .progress) (world (near .now) (far .now) (slots .now) (daily .now) (seen rs) curve′) ≡ handed (closeOf (view self) (world (near .now) (far .now) (slots .now) (daily .now) (seen rs) (curve .now))))) (l-curve : length curve′ ≡ length (curve .now)) → Sq W (‵ (flft κ₄ q₄) ∷ ‵ (flft κ₂ q₂) ∷ ‵ (flft κ₁ q₁) ∷ ‵ (flft κ₀ q₀) ∷ ‵ (finally u64 (curve .name) curve′) ∷ ‵ (flft κ₃ q₃) ∷ ‵ Own-near ∷ ‵ Own-far ∷ ‵ Own-slots ∷ ‵ Own-daily ∷ ‵ Own-readings ∷ ‵ (fat fullShare (sliceTy (tyRef erased mut (tyInt w64))) l₁₂ 0 v-curve) ∷ ‵ (fdies (sliceTy (tyRef erased mut (tyInt w64))) l₁₂) ∷ ‵ (fat fullShare (tyRef erased mut (tyInt w64)) l₁₁ 0 (vptr (curve .ptr .0) (curve .ptr .1))) ∷ ‵ (fdies (tyRef erased mut (tyInt w64)) l₁₁) ∷ ‵ (fat fullShare (tyInt w64) l₁₀ 0 (vint w64 (length (readings .now)))) ∷ ‵ (fdies (tyInt w64) l₁₀) ∷ ‵ (fat fullShare tyS l₉ 0 w) ∷ ‵ (fdies tyS l₉) ∷ ‵ (fat fullShare tyB l₈ 0 w₁) ∷ ‵ (fdies tyB l₈) ∷ ‵ (fat fullShare (sliceTy (tyRef (named 4) mut (tyInt w64))) l₇ 0 v-curve) ∷ ‵ (fdies (sliceTy (tyRef (named 4) mut (tyInt w64))) l₇) ∷ ‵ (fat fullShare (sliceTy (tyRef (named 3) imm (pointee (R.the-row .written)))) l₆ 0 v-readings) ∷ ‵ (fdies (sliceTy (tyRef (named 3) imm (pointee (R.the-row .written)))) l₆) ∷ ‵ (fat fullShare (sliceTy (tyRef (named 2) imm (tyInt w32))) l₅ 0 v-daily) ∷ ‵ (fdies (sliceTy (tyRef (named 2) imm (tyInt w32))) l₅) ∷ ‵ (fat fullShare (sliceTy (tyRef (named 1) imm (tyInt w16))) l₄ 0 v-slots) ∷ ‵ (fdies (sliceTy (tyRef (named 1) imm (tyInt w16))) l₄) ∷ ‵ (fat fullShare (sliceTy (tyRef (named 0) imm (tyInt w32))) l₃ 0 v-far) ∷ ‵ (fdies (sliceTy (tyRef (named 0) imm (tyInt w32))) l₃) ∷ ‵ (fat fullShare (sliceTy (tyRef (named 0) imm (tyInt w32))) l₂ 0 v-near) ∷ ‵ (fdies (sliceTy (tyRef (named 0) imm (tyInt w32))) l₂) ∷ ‵ (fat fullShare tyT l₁ 0 (LL.val T.the-type T′.the-laws self)) ∷ ‵ (fdies tyT l₁) ∷ ‵ (froom tyO l₀ 0) ∷ ‵ (fdies tyO l₀) ∷ []) (runs C Λ (En l₀ l₁ l₂ l₃ l₄ l₅ l₆ l₇ l₈ l₉ l₁₀ l₁₁ l₁₂) pieces.t-6 (atRet (En l₀ l₁ l₂ l₃ l₄ l₅ l₆ l₇ l₈ l₉ l₁₀ l₁₁ l₁₂) Post))
-      after-close-blocks r₁ w₁ is₁ e₁ r w curve′ is e l-curve =
+      after-shut : (r₁ : Columns) (w₁ : Val) (is₁ : Is B.the-row r₁ (w₁ ∷ [])) (e₁ : r₁ ≡ columnsOf (readings .now)) (r : Ended) (w : Val) (curve′ : List ℕ) (is : Is S.the-row r (w ∷ [])) (e : EachColumns (length (readings .now)) r₁ (λ rs. endsBack r (self .count) (self .progress) (world (near .now) (far .now) (slots .now) (daily .now) (seen rs) curve′) ≡ handed (closeOf (view self) (world (near .now) (far .now) (slots .now) (daily .now) (seen rs) (curve .now))))) (l-curve : length curve′ ≡ length (curve .now)) → Sq W (‵ (flft κ₄ q₄) ∷ ‵ (flft κ₂ q₂) ∷ ‵ (flft κ₁ q₁) ∷ ‵ (flft κ₀ q₀) ∷ ‵ (finally u64 (curve .name) curve′) ∷ ‵ (flft κ₃ q₃) ∷ ‵ Own-near ∷ ‵ Own-far ∷ ‵ Own-slots ∷ ‵ Own-daily ∷ ‵ Own-readings ∷ ‵ (fat fullShare (sliceTy (tyRef erased mut (tyInt w64))) l₁₂ 0 v-curve) ∷ ‵ (fdies (sliceTy (tyRef erased mut (tyInt w64))) l₁₂) ∷ ‵ (fat fullShare (tyRef erased mut (tyInt w64)) l₁₁ 0 (vptr (curve .ptr .0) (curve .ptr .1))) ∷ ‵ (fdies (tyRef erased mut (tyInt w64)) l₁₁) ∷ ‵ (fat fullShare (tyInt w64) l₁₀ 0 (vint w64 (length (readings .now)))) ∷ ‵ (fdies (tyInt w64) l₁₀) ∷ ‵ (fat fullShare tyS l₉ 0 w) ∷ ‵ (fdies tyS l₉) ∷ ‵ (fat fullShare tyB l₈ 0 w₁) ∷ ‵ (fdies tyB l₈) ∷ ‵ (fat fullShare (sliceTy (tyRef (named 4) mut (tyInt w64))) l₇ 0 v-curve) ∷ ‵ (fdies (sliceTy (tyRef (named 4) mut (tyInt w64))) l₇) ∷ ‵ (fat fullShare (sliceTy (tyRef (named 3) imm (pointee (R.the-row .written)))) l₆ 0 v-readings) ∷ ‵ (fdies (sliceTy (tyRef (named 3) imm (pointee (R.the-row .written)))) l₆) ∷ ‵ (fat fullShare (sliceTy (tyRef (named 2) imm (tyInt w32))) l₅ 0 v-daily) ∷ ‵ (fdies (sliceTy (tyRef (named 2) imm (tyInt w32))) l₅) ∷ ‵ (fat fullShare (sliceTy (tyRef (named 1) imm (tyInt w16))) l₄ 0 v-slots) ∷ ‵ (fdies (sliceTy (tyRef (named 1) imm (tyInt w16))) l₄) ∷ ‵ (fat fullShare (sliceTy (tyRef (named 0) imm (tyInt w32))) l₃ 0 v-far) ∷ ‵ (fdies (sliceTy (tyRef (named 0) imm (tyInt w32))) l₃) ∷ ‵ (fat fullShare (sliceTy (tyRef (named 0) imm (tyInt w32))) l₂ 0 v-near) ∷ ‵ (fdies (sliceTy (tyRef (named 0) imm (tyInt w32))) l₂) ∷ ‵ (fat fullShare tyT l₁ 0 (LL.val T.the-type T′.the-laws self)) ∷ ‵ (fdies tyT l₁) ∷ ‵ (froom tyO l₀ 0) ∷ ‵ (fdies tyO l₀) ∷ []) (runs C Λ (En l₀ l₁ l₂ l₃ l₄ l₅ l₆ l₇ l₈ l₉ l₁₀ l₁₁ l₁₂) pieces.t-6 (atRet (En l₀ l₁ l₂ l₃ l₄ l₅ l₆ l₇ l₈ l₉ l₁₀ l₁₁ l₁₂) Post))
+      after-shut r₁ w₁ is₁ e₁ r w curve′ is e l-curve =
           -- `close_answer`
           nothing ! $ use1 W (raw (CloseAnswer 𝓤 H A mem run .pre (to-close-answer r w))) (goes-close-answer r w is) $
           calls-at ! fm (CloseAnswer 𝓤 H A mem run) known-close-answer (to-close-answer r w) (and-then ! (load ! (from ! (stop !)) (look ! 34 refl)) (and-then ! (load ! (from ! (stop !)) (look ! 18 refl)) (no-more !))) (λ w₂.
@@ -224,14 +221,14 @@ module _ {M : Type 1} (𝓤 : URA M) (H : Heap 𝓤) (A : Atoms 𝓤) (W : Given
       after-columns-of : (r₁ : Columns) (w₁ : Val) (is₁ : Is B.the-row r₁ (w₁ ∷ [])) (e₁ : r₁ ≡ columnsOf (readings .now)) → Sq W (‵ (flft κ₃ q₃) ∷ ‵ (flft κ₀ q₀) ∷ ‵ (flft κ₁ q₁) ∷ ‵ (flft κ₂ q₂) ∷ ‵ (flft κ₄ q₄) ∷ ‵ Own-near ∷ ‵ Own-near ∷ ‵ Own-far ∷ ‵ Own-far ∷ ‵ Own-slots ∷ ‵ Own-slots ∷ ‵ Own-daily ∷ ‵ Own-daily ∷ ‵ Own-readings ∷ ‵ Own-curve ∷ ‵ (froom (sliceTy (tyRef erased mut (tyInt w64))) l₁₂ 0) ∷ ‵ (fdies (sliceTy (tyRef erased mut (tyInt w64))) l₁₂) ∷ ‵ (froom (tyRef erased mut (tyInt w64)) l₁₁ 0) ∷ ‵ (fdies (tyRef erased mut (tyInt w64)) l₁₁) ∷ ‵ (froom (tyInt w64) l₁₀ 0) ∷ ‵ (fdies (tyInt w64) l₁₀) ∷ ‵ (froom tyS l₉ 0) ∷ ‵ (fdies tyS l₉) ∷ ‵ (fat fullShare tyB l₈ 0 w₁) ∷ ‵ (fdies tyB l₈) ∷ ‵ (fat fullShare (sliceTy (tyRef (named 4) mut (tyInt w64))) l₇ 0 v-curve) ∷ ‵ (fdies (sliceTy (tyRef (named 4) mut (tyInt w64))) l₇) ∷ ‵ (fat fullShare (sliceTy (tyRef (named 3) imm (pointee (R.the-row .written)))) l₆ 0 v-readings) ∷ ‵ (fdies (sliceTy (tyRef (named 3) imm (pointee (R.the-row .written)))) l₆) ∷ ‵ (fat fullShare (sliceTy (tyRef (named 2) imm (tyInt w32))) l₅ 0 v-daily) ∷ ‵ (fdies (sliceTy (tyRef (named 2) imm (tyInt w32))) l₅) ∷ ‵ (fat fullShare (sliceTy (tyRef (named 1) imm (tyInt w16))) l₄ 0 v-slots) ∷ ‵ (fdies (sliceTy (tyRef (named 1) imm (tyInt w16))) l₄) ∷ ‵ (fat fullShare (sliceTy (tyRef (named 0) imm (tyInt w32))) l₃ 0 v-far) ∷ ‵ (fdies (sliceTy (tyRef (named 0) imm (tyInt w32))) l₃) ∷ ‵ (fat fullShare (sliceTy (tyRef (named 0) imm (tyInt w32))) l₂ 0 v-near) ∷ ‵ (fdies (sliceTy (tyRef (named 0) imm (tyInt w32))) l₂) ∷ ‵ (fat fullShare tyT l₁ 0 (LL.val T.the-type T′.the-laws self)) ∷ ‵ (fdies tyT l₁) ∷ ‵ (froom tyO l₀ 0) ∷ ‵ (fdies tyO l₀) ∷ []) (runs C Λ (En l₀ l₁ l₂ l₃ l₄ l₅ l₆ l₇ l₈ l₉ l₁₀ l₁₁ l₁₂) pieces.t-2 (atRet (En l₀ l₁ l₂ l₃ l₄ l₅ l₆ l₇ l₈ l₉ l₁₀ l₁₁ l₁₂) Post))
       after-columns-of r₁ w₁ is₁ e₁ =
           assigns ! (of-opd ! (load ! (from ! (fld ! refl (stop !))) (look-in ! 27 (sub ! 1 refl (whole !))))) (from ! (stop !)) (init ! 19 refl (tt, record { fits = room-readings .0 })) $ assigns ! (addr ! (from ! (fld ! refl (hop ! (look-in ! 25 (sub ! 0 refl (whole !))) (stop !))))) (from ! (stop !)) (init ! 17 refl (tt, tt)) $ assigns ! (agg ! (and-then ! (load ! (from ! (stop !)) (look ! 17 refl)) (and-then ! (load ! (from ! (fld ! refl (stop !))) (look-in ! 25 (sub ! 1 refl (whole !)))) (no-more !)))) (from ! (stop !)) (init ! 15 refl (tt, (tt, (record { fits = room-curve .0 }, tt)))) $
-          -- `close_blocks`
-          move ! (1 ∷ 2 ∷ 3 ∷ 4 ∷ 6 ∷ 8 ∷ 10 ∷ 12 ∷ 14 ∷ []) $ group ! 9 $ use1 W (raw (CloseBlocks 𝓤 H A mem run .pre (to-close-blocks r₁ w₁))) (goes-close-blocks r₁ w₁ is₁) $
-          calls-at ! fm (CloseBlocks 𝓤 H A mem run) known-close-blocks (to-close-blocks r₁ w₁) (and-then ! (load ! (from ! (fld ! refl (stop !))) (look-in ! 29 (sub ! 0 refl (whole !)))) (and-then ! (load ! (from ! (fld ! refl (stop !))) (look-in ! 29 (sub ! 1 refl (whole !)))) (and-then ! (load ! (from ! (fld ! refl (stop !))) (look-in ! 29 (sub ! 2 refl (whole !)))) (and-then ! (load ! (from ! (stop !)) (look ! 27 refl)) (and-then ! (load ! (from ! (stop !)) (look ! 25 refl)) (and-then ! (load ! (from ! (stop !)) (look ! 23 refl)) (and-then ! (load ! (from ! (stop !)) (look ! 21 refl)) (and-then ! (load ! (from ! (stop !)) (look ! 15 refl)) (and-then ! (load ! (from ! (stop !)) (look ! 11 refl)) (and-then ! (load ! (from ! (stop !)) (look ! 7 refl)) (no-more !))))))))))) (λ w.
-          use1 W (later (some (λ (r : Ended). ((‵ (flft κ₀ q₀) ⊛ ‵ (flft κ₁ q₁) ⊛ ‵ (flft κ₂ q₂) ⊛ ‵ (flft κ₄ q₄) ⊛ ‵ ftrue) ⊛ ‵ (S.the-row .own r (w ∷ []))) ⊛ raw (ensured 𝓤 H A close-blocks.ended (close-blocks.clauses 𝓤 H A mem run) (κ₀, (κ₁, (κ₂, (κ₄, tt)))) (self .state, (self .count, (self .progress, (near, (far, (slots, (daily, (r₁, (length (readings .now), (curve, tt)))))))))) tt r)))) (id⊢ 𝓤 _) $ await ! tt $ pick ! (λ r.
-          split ! $ move ! (1 ∷ []) $ use1 W (some (λ (ms : Unit {0} × (Unit {0} × (Unit {0} × (Unit {0} × (Unit {0} × (Unit {0} × (Unit {0} × (Unit {0} × (Unit {0} × (List ℕ × Unit {0})))))))))). ‵ (lasts close-blocks.ended (κ₀, (κ₁, (κ₂, (κ₄, tt)))) (self .state, (self .count, (self .progress, (near, (far, (slots, (daily, (r₁, (length (readings .now), (curve, tt)))))))))) ms) ⊛ raw (fact 𝓤 (EachColumns (length (readings .now)) r₁ (λ rs. endsBack r (self .count) (self .progress) (world (near .now) (far .now) (slots .now) (daily .now) (seen rs) (ms .1 .1 .1 .1 .1 .1 .1 .1 .1 .0)) ≡ handed (closeOf (view self) (world (near .now) (far .now) (slots .now) (daily .now) (seen rs) (curve .now)))))))) (id⊢ 𝓤 _) $ pick ! (λ ms.
-          split ! $ move ! (1 ∷ []) $ heard ! (EachColumns (length (readings .now)) r₁ (λ rs. endsBack r (self .count) (self .progress) (world (near .now) (far .now) (slots .now) (daily .now) (seen rs) (ms .1 .1 .1 .1 .1 .1 .1 .1 .1 .0)) ≡ handed (closeOf (view self) (world (near .now) (far .now) (slots .now) (daily .now) (seen rs) (curve .now))))) (λ e. fsplit ! $ drop ! $ fsplit ! $ drop ! $ fsplit ! $ drop ! $ fsplit ! $ drop ! $ fsplit ! $ drop ! $ fsplit ! $ drop ! $ fsplit ! $ drop ! $ fsplit ! $ drop ! $ fsplit ! $ drop ! $ fsplit ! $ fsplit ! $ move ! (1 ∷ []) $ feqL ! (λ l-curve.
+          -- `shut`
+          move ! (1 ∷ 2 ∷ 3 ∷ 4 ∷ 6 ∷ 8 ∷ 10 ∷ 12 ∷ 14 ∷ []) $ group ! 9 $ use1 W (raw (Shut 𝓤 H A mem run .pre (to-shut r₁ w₁))) (goes-shut r₁ w₁ is₁) $
+          calls-at ! fm (Shut 𝓤 H A mem run) known-shut (to-shut r₁ w₁) (and-then ! (load ! (from ! (stop !)) (look ! 29 refl)) (and-then ! (load ! (from ! (stop !)) (look ! 27 refl)) (and-then ! (load ! (from ! (stop !)) (look ! 25 refl)) (and-then ! (load ! (from ! (stop !)) (look ! 23 refl)) (and-then ! (load ! (from ! (stop !)) (look ! 21 refl)) (and-then ! (load ! (from ! (stop !)) (look ! 15 refl)) (and-then ! (load ! (from ! (stop !)) (look ! 11 refl)) (and-then ! (load ! (from ! (stop !)) (look ! 7 refl)) (no-more !))))))))) (λ w.
+          use1 W (later (some (λ (r : Ended). ((‵ (flft κ₀ q₀) ⊛ ‵ (flft κ₁ q₁) ⊛ ‵ (flft κ₂ q₂) ⊛ ‵ (flft κ₄ q₄) ⊛ ‵ ftrue) ⊛ ‵ (S.the-row .own r (w ∷ []))) ⊛ raw (ensured 𝓤 H A shut.ended (shut.clauses 𝓤 H A mem run) (κ₀, (κ₁, (κ₂, (κ₄, tt)))) (self, (near, (far, (slots, (daily, (r₁, (length (readings .now), (curve, tt)))))))) tt r)))) (id⊢ 𝓤 _) $ await ! tt $ pick ! (λ r.
+          split ! $ move ! (1 ∷ []) $ use1 W (some (λ (ms : Unit {0} × (Unit {0} × (Unit {0} × (Unit {0} × (Unit {0} × (Unit {0} × (Unit {0} × (List ℕ × Unit {0})))))))). ‵ (lasts shut.ended (κ₀, (κ₁, (κ₂, (κ₄, tt)))) (self, (near, (far, (slots, (daily, (r₁, (length (readings .now), (curve, tt)))))))) ms) ⊛ raw (fact 𝓤 (EachColumns (length (readings .now)) r₁ (λ rs. endsBack r (self .count) (self .progress) (world (near .now) (far .now) (slots .now) (daily .now) (seen rs) (ms .1 .1 .1 .1 .1 .1 .1 .0)) ≡ handed (closeOf (view self) (world (near .now) (far .now) (slots .now) (daily .now) (seen rs) (curve .now)))))))) (id⊢ 𝓤 _) $ pick ! (λ ms.
+          split ! $ move ! (1 ∷ []) $ heard ! (EachColumns (length (readings .now)) r₁ (λ rs. endsBack r (self .count) (self .progress) (world (near .now) (far .now) (slots .now) (daily .now) (seen rs) (ms .1 .1 .1 .1 .1 .1 .1 .0)) ≡ handed (closeOf (view self) (world (near .now) (far .now) (slots .now) (daily .now) (seen rs) (curve .now))))) (λ e. fsplit ! $ drop ! $ fsplit ! $ drop ! $ fsplit ! $ drop ! $ fsplit ! $ drop ! $ fsplit ! $ drop ! $ fsplit ! $ drop ! $ fsplit ! $ drop ! $ fsplit ! $ fsplit ! $ move ! (1 ∷ []) $ feqL ! (λ l-curve.
           move ! (1 ∷ []) $ drop ! $ move ! (1 ∷ []) $ split ! $ move ! (1 ∷ []) $ peeks ! S.the-row (Is (S.the-row)) (shows 𝓤 H A (S.the-row)) r (w ∷ []) (λ is. land ! (from ! (stop !)) (init ! 15 refl (LL.lawful S.the-type S′.the-laws 𝓤 H A W .typed r _ is .0)) $ drop ! $ split ! $ move ! (1 ∷ []) $ split ! $ move ! (1 ∷ []) $ split ! $ move ! (1 ∷ []) $ split ! $ move ! (1 ∷ []) $ drop ! $
-          after-close-blocks r₁ w₁ is₁ e₁ r w (ms .1 .1 .1 .1 .1 .1 .1 .1 .1 .0) is e l-curve))))))
+          after-shut r₁ w₁ is₁ e₁ r w (ms .1 .1 .1 .1 .1 .1 .1 .0) is e l-curve))))))
 
       begun : Sq W (‵ (flft κ₀ q₀) ∷ ‵ (flft κ₁ q₁) ∷ ‵ (flft κ₂ q₂) ∷ ‵ (flft κ₃ q₃) ∷ ‵ (flft κ₄ q₄) ∷ ‵ Own-near ∷ ‵ Own-near ∷ ‵ Own-far ∷ ‵ Own-far ∷ ‵ Own-slots ∷ ‵ Own-slots ∷ ‵ Own-daily ∷ ‵ Own-daily ∷ ‵ Own-readings ∷ ‵ Own-readings ∷ ‵ Own-curve ∷ ‵ (froom (sliceTy (tyRef erased mut (tyInt w64))) l₁₂ 0) ∷ ‵ (fdies (sliceTy (tyRef erased mut (tyInt w64))) l₁₂) ∷ ‵ (froom (tyRef erased mut (tyInt w64)) l₁₁ 0) ∷ ‵ (fdies (tyRef erased mut (tyInt w64)) l₁₁) ∷ ‵ (froom (tyInt w64) l₁₀ 0) ∷ ‵ (fdies (tyInt w64) l₁₀) ∷ ‵ (froom tyS l₉ 0) ∷ ‵ (fdies tyS l₉) ∷ ‵ (froom tyB l₈ 0) ∷ ‵ (fdies tyB l₈) ∷ ‵ (fat fullShare (sliceTy (tyRef (named 4) mut (tyInt w64))) l₇ 0 v-curve) ∷ ‵ (fdies (sliceTy (tyRef (named 4) mut (tyInt w64))) l₇) ∷ ‵ (fat fullShare (sliceTy (tyRef (named 3) imm (pointee (R.the-row .written)))) l₆ 0 v-readings) ∷ ‵ (fdies (sliceTy (tyRef (named 3) imm (pointee (R.the-row .written)))) l₆) ∷ ‵ (fat fullShare (sliceTy (tyRef (named 2) imm (tyInt w32))) l₅ 0 v-daily) ∷ ‵ (fdies (sliceTy (tyRef (named 2) imm (tyInt w32))) l₅) ∷ ‵ (fat fullShare (sliceTy (tyRef (named 1) imm (tyInt w16))) l₄ 0 v-slots) ∷ ‵ (fdies (sliceTy (tyRef (named 1) imm (tyInt w16))) l₄) ∷ ‵ (fat fullShare (sliceTy (tyRef (named 0) imm (tyInt w32))) l₃ 0 v-far) ∷ ‵ (fdies (sliceTy (tyRef (named 0) imm (tyInt w32))) l₃) ∷ ‵ (fat fullShare (sliceTy (tyRef (named 0) imm (tyInt w32))) l₂ 0 v-near) ∷ ‵ (fdies (sliceTy (tyRef (named 0) imm (tyInt w32))) l₂) ∷ ‵ (fat fullShare tyT l₁ 0 (LL.val T.the-type T′.the-laws self)) ∷ ‵ (fdies tyT l₁) ∷ ‵ (froom tyO l₀ 0) ∷ ‵ (fdies tyO l₀) ∷ []) (runs C Λ (En l₀ l₁ l₂ l₃ l₄ l₅ l₆ l₇ l₈ l₉ l₁₀ l₁₁ l₁₂) pieces.t-1 (atRet (En l₀ l₁ l₂ l₃ l₄ l₅ l₆ l₇ l₈ l₉ l₁₀ l₁₁ l₁₂) Post))
       begun =
@@ -253,20 +250,20 @@ module _ {M : Type 1} (𝓤 : URA M) (H : Heap 𝓤) (A : Atoms 𝓤) (W : Given
         begun l₀ l₁ l₂ l₃ l₄ l₅ l₆ l₇ l₈ l₉ l₁₀ l₁₁ l₁₂)))))))))))))
 
 module _ {M : Type 1} (𝓤 : URA M) (H : Heap 𝓤) (A : Atoms 𝓤) (W : Given 𝓤 H A) (mem : Memory → SProp 𝓤) (run : Routine → Fun 𝓤) where
-  walks : (C : Calls 𝓤 H) (Λ : Loops 𝓤 H) → FmC 𝓤 H (W .laws) C → Triple 𝓤 (C #readings·columns-of) (ColumnsOf 𝓤 H A mem run) → Triple 𝓤 (C #ending·close-blocks) (CloseBlocks 𝓤 H A mem run) → Triple 𝓤 (C #site·packing·close-answer) (CloseAnswer 𝓤 H A mem run) → Walks 𝓤 H A f.ended stayed (WpFn 𝓤 H C Λ code.function) (f.clauses 𝓤 H A mem run)
-  walks C Λ fm known-columns-of known-close-blocks known-close-answer = walked 𝓤 H A f.ended stayed (f.clauses 𝓤 H A mem run) (WpFn 𝓤 H C Λ code.function)
+  walks : (C : Calls 𝓤 H) (Λ : Loops 𝓤 H) → FmC 𝓤 H (W .laws) C → Triple 𝓤 (C #readings·columns-of) (ColumnsOf 𝓤 H A mem run) → Triple 𝓤 (C #site·whole·shut) (Shut 𝓤 H A mem run) → Triple 𝓤 (C #site·packing·close-answer) (CloseAnswer 𝓤 H A mem run) → Walks 𝓤 H A f.ended stayed (WpFn 𝓤 H C Λ code.function) (f.clauses 𝓤 H A mem run)
+  walks C Λ fm known-columns-of known-shut known-close-answer = walked 𝓤 H A f.ended stayed (f.clauses 𝓤 H A mem run) (WpFn 𝓤 H C Λ code.function)
       (λ κs. (LL.vals T.the-type T′.the-laws, (slice-vals, (slice-vals, (slice-vals, (slice-vals, (slice-vals, (slice-vals, tt))))))))
       (λ κs. (LL.tells T.the-type T′.the-laws, (shr-slice-tells (named 0) (κs .0) u32, (shr-slice-tells (named 0) (κs .0) u32, (shr-slice-tells (named 1) (κs .1 .0) u16, (shr-slice-tells (named 2) (κs .1 .1 .0) u32, (shr-slice-tells (named 3) (κs .1 .1 .1 .0) R.the-row, (mut-slice-tells (named 4) (κs .1 .1 .1 .1 .0) u64, tt))))))))
       (λ κs qs bounds a g are. via 𝓤 _ (fst∗ 𝓤 _ (emp 𝓤)) (walk 𝓤 H A W mem run (κs .0) (κs .1 .0) (κs .1 .1 .0) (κs .1 .1 .1 .0) (κs .1 .1 .1 .1 .0) (qs .0) (qs .1 .0) (qs .1 .1 .0) (qs .1 .1 .1 .0) (qs .1 .1 .1 .1 .0)
       (a .0) (a .1 .0) (a .1 .1 .0) (a .1 .1 .1 .0) (a .1 .1 .1 .1 .0) (a .1 .1 .1 .1 .1 .0) (a .1 .1 .1 .1 .1 .1 .0)
-      (are .0) (are .1 .0 .0 .1) (are .1 .1 .0 .0 .1) (are .1 .1 .1 .0 .0 .1) (are .1 .1 .1 .1 .0 .0 .1) (are .1 .1 .1 .1 .1 .0 .0 .1) (are .1 .1 .1 .1 .1 .1 .0 .0 .1) C Λ fm known-columns-of known-close-blocks known-close-answer))
+      (are .0) (are .1 .0 .0 .1) (are .1 .1 .0 .0 .1) (are .1 .1 .1 .0 .0 .1) (are .1 .1 .1 .1 .0 .0 .1) (are .1 .1 .1 .1 .1 .0 .0 .1) (are .1 .1 .1 .1 .1 .1 .0 .0 .1) C Λ fm known-columns-of known-shut known-close-answer))
 
-meets : {M : Type 1} (𝓤 : URA M) (H : Heap 𝓤) (A : Atoms 𝓤) → Given 𝓤 H A → (mem : Memory → SProp 𝓤) (run : Routine → Fun 𝓤) (𝓣 : Tables 𝓤 H) → Triple 𝓤 (𝓣 .C #readings·columns-of) (ColumnsOf 𝓤 H A mem run) → Triple 𝓤 (𝓣 .C #ending·close-blocks) (CloseBlocks 𝓤 H A mem run) → Triple 𝓤 (𝓣 .C #site·packing·close-answer) (CloseAnswer 𝓤 H A mem run)
+meets : {M : Type 1} (𝓤 : URA M) (H : Heap 𝓤) (A : Atoms 𝓤) → Given 𝓤 H A → (mem : Memory → SProp 𝓤) (run : Routine → Fun 𝓤) (𝓣 : Tables 𝓤 H) → Triple 𝓤 (𝓣 .C #readings·columns-of) (ColumnsOf 𝓤 H A mem run) → Triple 𝓤 (𝓣 .C #site·whole·shut) (Shut 𝓤 H A mem run) → Triple 𝓤 (𝓣 .C #site·packing·close-answer) (CloseAnswer 𝓤 H A mem run)
     → Meets 𝓤 H A f.signature (WpFn 𝓤 H (𝓣 .C) (𝓣 .Λ) code.function) (f.spec 𝓤 H A mem run)
-meets 𝓤 H A W mem run 𝓣 known-columns-of known-close-blocks known-close-answer =
+meets 𝓤 H A W mem run 𝓣 known-columns-of known-shut known-close-answer =
     walk-meets 𝓤 H A f.ended stayed W
     (goes-none 𝓤 H A W 5 (λ _. T.the-row) yes (λ κs x f. refl), (goes-none-slice 𝓤 H A W 5 (0 ∷ []) tt (plain (λ _. u32)) yes, (goes-none-slice 𝓤 H A W 5 (0 ∷ []) tt (plain (λ _. u32)) yes, (goes-none-slice 𝓤 H A W 5 (1 ∷ []) tt (plain (λ _. u16)) yes, (goes-none-slice 𝓤 H A W 5 (2 ∷ []) tt (plain (λ _. u32)) yes, (goes-none-slice 𝓤 H A W 5 (3 ∷ []) tt (plain (λ _. R.the-row)) yes, (goes-gave-slice 𝓤 H A W 5 4 tt (plain (λ _. u64)), tt)))))))
-    (f.clauses 𝓤 H A mem run) (WpFn 𝓤 H (𝓣 .C) (𝓣 .Λ) code.function) (WpFn-mono 𝓤 H (W .laws) 𝓣 code.function) (walks 𝓤 H A W mem run (𝓣 .C) (𝓣 .Λ) (fmOf 𝓤 H (W .laws) 𝓣) known-columns-of known-close-blocks known-close-answer)
+    (f.clauses 𝓤 H A mem run) (WpFn 𝓤 H (𝓣 .C) (𝓣 .Λ) code.function) (WpFn-mono 𝓤 H (W .laws) 𝓣 code.function) (walks 𝓤 H A W mem run (𝓣 .C) (𝓣 .Λ) (fmOf 𝓤 H (W .laws) 𝓣) known-columns-of known-shut known-close-answer)
 
 pub close-spec : {M : Type 1} → stated.statement M
 unfolding code.routine tablesOf
@@ -275,5 +272,5 @@ close-spec 𝓤 H 𝓜 𝓖 𝓡 =
     (tables 𝓤 H 𝓜 𝓡 code.env .C) (tables 𝓤 H 𝓜 𝓡 code.env .Λ) #site·Record·close code.function (code.unfolded 𝓤 H 𝓜 𝓡)
     (meets 𝓤 H (𝓖 .A) (givenOf 𝓤 H 𝓜 𝓖) (𝓜 .mem) (𝓡 .run) (tablesOf 𝓤 H 𝓜 (tables 𝓤 H 𝓜 𝓡 code.env))
     (cited 𝓤 H (ColumnsOf 𝓤 H (𝓖 .A) (𝓜 .mem) (𝓡 .run)) 𝓜 𝓡 code.env #readings·columns-of columns-of-def.routine code.calls-readings·columns-of (columns-of-thm.met 𝓤 H 𝓜 𝓖 𝓡))
-    (cited 𝓤 H (CloseBlocks 𝓤 H (𝓖 .A) (𝓜 .mem) (𝓡 .run)) 𝓜 𝓡 code.env #ending·close-blocks close-blocks-def.routine code.calls-ending·close-blocks (close-blocks-thm.met 𝓤 H 𝓜 𝓖 𝓡))
+    (cited 𝓤 H (Shut 𝓤 H (𝓖 .A) (𝓜 .mem) (𝓡 .run)) 𝓜 𝓡 code.env #site·whole·shut shut-def.routine code.calls-site·whole·shut (shut-thm.met 𝓤 H 𝓜 𝓖 𝓡))
     (cited 𝓤 H (CloseAnswer 𝓤 H (𝓖 .A) (𝓜 .mem) (𝓡 .run)) 𝓜 𝓡 code.env #site·packing·close-answer close-answer-def.routine code.calls-site·packing·close-answer (close-answer-thm.met 𝓤 H 𝓜 𝓖 𝓡)))

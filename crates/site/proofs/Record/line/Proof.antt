@@ -1,4 +1,4 @@
--- `site::Record::line` meets its contract: a walk of its MIR, by hand. All that it knows of `hear_line` and `put` and `line_answer` is that each meets its contract.
+-- `site::Record::line` meets its contract: a walk of its MIR, by hand. All that it knows of `hear` and `put` and `line_answer` is that each meets its contract.
 -- Each `&mut` is given up for good to the call that takes it (`gave-slice`), and what the callee says of its last list is said of the parameter's. A `&` is Copy: one copy of what it owns is passed on, and one is kept for the exit.
 use mathlib.Core.Path.{_≡_, refl, ap, _∙_, subst}
 use Prim.Native.Nat.{ℕ}
@@ -48,24 +48,21 @@ use Rattle.hearing.specs.Heard.{hearsBack}
 use Rattle.site.specs.Views.{view, handsBack}
 use Rattle.site.specs.declared.Record.{Record}
 use Rattle.hearing.specs.declared.Heard.{Heard}
-use Rattle.taking.specs.declared.Progress.{Progress}
 use Rattle.site.specs.declared.Opened.{Opened}
 use Rattle.readings.specs.declared.Reading.{Reading}
 use Rattle.site.proofs.Record as T
 use Rattle.site.proofs.Record.Laws as T′
 use Rattle.hearing.proofs.Heard as S
 use Rattle.hearing.proofs.Heard.Laws as S′
-use Rattle.taking.proofs.Progress as G
-use Rattle.taking.proofs.Progress.Laws as G′
 use Rattle.site.proofs.Opened as O
 use Rattle.site.proofs.Opened.Laws as O′
 use Rattle.readings.proofs.Reading as R
 use Rattle.readings.proofs.Reading.Laws as R′
 use Rattle.readings.proofs.Gone.{full, gone}
-use Rattle.hearing.proofs.hear_line as hear-line
-use Rattle.hearing.proofs.hear_line.Symbol as hear-line-def
-use Rattle.hearing.proofs.hear_line.Symbol.{name as #hearing·hear-line}
-use Rattle.hearing.proofs.hear_line.Met as hear-line-thm
+use Rattle.site.proofs.whole.hear as hear
+use Rattle.site.proofs.whole.hear.Symbol as hear-def
+use Rattle.site.proofs.whole.hear.Symbol.{name as #site·whole·hear}
+use Rattle.site.proofs.whole.hear.Met as hear-thm
 use Rattle.readings.proofs.put as put
 use Rattle.readings.proofs.put.Symbol as put-def
 use Rattle.readings.proofs.put.Symbol.{name as #readings·put}
@@ -95,8 +92,8 @@ tyO = spell pieces.table (pointee (O.the-row .written))
 
 module _ {M : Type 1} (𝓤 : URA M) (H : Heap 𝓤) (A : Atoms 𝓤) (mem : Memory → SProp 𝓤) (run : Routine → Fun 𝓤) where
   -- the contracts that the proof cites
-  abbrev HearLine : Contract 𝓤
-  HearLine = tripleOf 𝓤 H A hear-line.signature (hear-line.spec 𝓤 H A mem run)
+  abbrev Hear : Contract 𝓤
+  Hear = tripleOf 𝓤 H A hear.signature (hear.spec 𝓤 H A mem run)
 
   abbrev PutR : Contract 𝓤
   PutR = tripleOf 𝓤 H A put.signature (put.spec 𝓤 H A mem run)
@@ -162,13 +159,13 @@ module _ {M : Type 1} (𝓤 : URA M) (H : Heap 𝓤) (A : Atoms 𝓤) (W : Given
   abbrev Post : Val → SProp 𝓤
   Post = walkOf 𝓤 H A f.ended stayed (f.clauses 𝓤 H A mem run) .post (((κ₀, (κ₁, (κ₂, (κ₃, (κ₄, (κ₅, (κ₆, tt))))))), (q₀, (q₁, (q₂, (q₃, (q₄, (q₅, (q₆, tt))))))), tt, a, at), tt)
 
-  -- `hear_line`: what it is passed, and that the caller has what it asks
-  abbrev to-hear-line : HearLine 𝓤 H A mem run .Ghost
-  to-hear-line = (((κ₀, (κ₁, (κ₂, (κ₃, (κ₄, tt))))), (q₀, (q₁, (q₂, (q₃, (q₄, tt))))), tt, (self .state, (self .count, (self .progress, (line, (near, (far, (slots, (daily, (length (readings .now), (length (curve .now), tt)))))))))), (vint w64 (self .state) ∷ [], (vint w64 (self .count) ∷ [], (LL.vals G.the-type G′.the-laws (self .progress), (v-line ∷ [], (v-near ∷ [], (v-far ∷ [], (v-slots ∷ [], (v-daily ∷ [], (vint w64 (length (readings .now)) ∷ [], (vint w64 (length (curve .now)) ∷ [], tt))))))))))), tt)
+  -- `hear`: what it is passed, and that the caller has what it asks
+  abbrev to-hear : Hear 𝓤 H A mem run .Ghost
+  to-hear = (((κ₀, (κ₁, (κ₂, (κ₃, (κ₄, tt))))), (q₀, (q₁, (q₂, (q₃, (q₄, tt))))), tt, (self, (line, (near, (far, (slots, (daily, (length (readings .now), (length (curve .now), tt)))))))), (LL.vals T.the-type T′.the-laws (self), (v-line ∷ [], (v-near ∷ [], (v-far ∷ [], (v-slots ∷ [], (v-daily ∷ [], (vint w64 (length (readings .now)) ∷ [], (vint w64 (length (curve .now)) ∷ [], tt))))))))), tt)
 
-  goes-hear-line : ent 𝓤 (⋆ 𝓤 H A (‵ (flft κ₀ q₀) ∷ ‵ (flft κ₁ q₁) ∷ ‵ (flft κ₂ q₂) ∷ ‵ (flft κ₃ q₃) ∷ ‵ (flft κ₄ q₄) ∷ ‵ Own-line ∷ ‵ Own-near ∷ ‵ Own-far ∷ ‵ Own-slots ∷ ‵ Own-daily ∷ [])) (HearLine 𝓤 H A mem run .pre (to-hear-line))
-  goes-hear-line =
-      qed W (‵ (flft κ₀ q₀) ∷ ‵ (flft κ₁ q₁) ∷ ‵ (flft κ₂ q₂) ∷ ‵ (flft κ₃ q₃) ∷ ‵ (flft κ₄ q₄) ∷ ‵ Own-line ∷ ‵ Own-near ∷ ‵ Own-far ∷ ‵ Own-slots ∷ ‵ Own-daily ∷ []) ∵ nothing ! $ owned ! usize (Is usize) (uint-makes 𝓤 H A W w64) (length (curve .now)) _ (refl, room-curve .0) $ fjoin ! $ owned ! usize (Is usize) (uint-makes 𝓤 H A W w64) (length (readings .now)) _ (refl, room-readings .0) $ fjoin ! $ move ! (10 ∷ 0 ∷ []) $ fjoin ! $ move ! (9 ∷ 0 ∷ []) $ fjoin ! $ move ! (8 ∷ 0 ∷ []) $ fjoin ! $ move ! (7 ∷ 0 ∷ []) $ fjoin ! $ move ! (6 ∷ 0 ∷ []) $ fjoin ! $ owned ! G.the-row (Is G.the-row) (LL.makes G.the-type G′.the-plain 𝓤 H A) (self .progress) _ (LL.owed T.the-type T′.the-laws self _ self-is .1 .1 .0) $ fjoin ! $ owned ! u64 (Is u64) (uint-makes 𝓤 H A W w64) (self .count) _ (refl, LL.owed T.the-type T′.the-laws self _ self-is .1 .0 .1) $ fjoin ! $ owned ! u64 (Is u64) (uint-makes 𝓤 H A W w64) (self .state) _ (refl, LL.owed T.the-type T′.the-laws self _ self-is .0 .1) $ fjoin ! $ nothing ! $ move ! (6 ∷ 0 ∷ []) $ join ! $ move ! (5 ∷ 0 ∷ []) $ join ! $ move ! (4 ∷ 0 ∷ []) $ join ! $ move ! (3 ∷ 0 ∷ []) $ join ! $ move ! (2 ∷ 0 ∷ []) $ join ! $ join ! $ frame ! $ done !
+  goes-hear : ent 𝓤 (⋆ 𝓤 H A (‵ (flft κ₀ q₀) ∷ ‵ (flft κ₁ q₁) ∷ ‵ (flft κ₂ q₂) ∷ ‵ (flft κ₃ q₃) ∷ ‵ (flft κ₄ q₄) ∷ ‵ Own-line ∷ ‵ Own-near ∷ ‵ Own-far ∷ ‵ Own-slots ∷ ‵ Own-daily ∷ [])) (Hear 𝓤 H A mem run .pre (to-hear))
+  goes-hear =
+      qed W (‵ (flft κ₀ q₀) ∷ ‵ (flft κ₁ q₁) ∷ ‵ (flft κ₂ q₂) ∷ ‵ (flft κ₃ q₃) ∷ ‵ (flft κ₄ q₄) ∷ ‵ Own-line ∷ ‵ Own-near ∷ ‵ Own-far ∷ ‵ Own-slots ∷ ‵ Own-daily ∷ []) ∵ nothing ! $ owned ! usize (Is usize) (uint-makes 𝓤 H A W w64) (length (curve .now)) _ (refl, room-curve .0) $ fjoin ! $ owned ! usize (Is usize) (uint-makes 𝓤 H A W w64) (length (readings .now)) _ (refl, room-readings .0) $ fjoin ! $ move ! (10 ∷ 0 ∷ []) $ fjoin ! $ move ! (9 ∷ 0 ∷ []) $ fjoin ! $ move ! (8 ∷ 0 ∷ []) $ fjoin ! $ move ! (7 ∷ 0 ∷ []) $ fjoin ! $ move ! (6 ∷ 0 ∷ []) $ fjoin ! $ owned ! T.the-row (Is T.the-row) (LL.makes T.the-type T′.the-plain 𝓤 H A) (self) _ self-is $ fjoin ! $ nothing ! $ move ! (6 ∷ 0 ∷ []) $ join ! $ move ! (5 ∷ 0 ∷ []) $ join ! $ move ! (4 ∷ 0 ∷ []) $ join ! $ move ! (3 ∷ 0 ∷ []) $ join ! $ move ! (2 ∷ 0 ∷ []) $ join ! $ join ! $ frame ! $ done !
 
   -- `put`: what it is passed, and that the caller has what it asks
   abbrev to-put : (r : Heard) (w : Val) → PutR 𝓤 H A mem run .Ghost
@@ -204,7 +201,7 @@ module _ {M : Type 1} (𝓤 : URA M) (H : Heap 𝓤) (A : Atoms 𝓤) (W : Given
     left w₁ r r₂ w₂ near′ far′ slots′ daily′ readings′ is₂ e e₁ e₂ l-near l-far l-slots l-daily l-readings =
         gone ! $ gone ! $ gone ! $ gone ! $ gone ! $ gone ! $ gone ! $ gone ! $ gone ! $ gone ! $ gone ! $ gone ! $ gone ! $ gone ! $ gone ! $ gone ! $ gone ! $ gone ! $ gone ! $ gone ! $ gone ! $ gone ! $ gone ! $ free0 ! $ by ! (exits r r₂ w₂ near′ far′ slots′ daily′ readings′ is₂ e e₁ e₂ l-near l-far l-slots l-daily l-readings)
 
-  module _ (C : Calls 𝓤 H) (Λ : Loops 𝓤 H) (fm : FmC 𝓤 H (W .laws) C) (known-hear-line : Triple 𝓤 (C #hearing·hear-line) (HearLine 𝓤 H A mem run)) (known-put : Triple 𝓤 (C #readings·put) (PutR 𝓤 H A mem run)) (known-line-answer : Triple 𝓤 (C #site·packing·line-answer) (LineAnswer 𝓤 H A mem run)) where
+  module _ (C : Calls 𝓤 H) (Λ : Loops 𝓤 H) (fm : FmC 𝓤 H (W .laws) C) (known-hear : Triple 𝓤 (C #site·whole·hear) (Hear 𝓤 H A mem run)) (known-put : Triple 𝓤 (C #readings·put) (PutR 𝓤 H A mem run)) (known-line-answer : Triple 𝓤 (C #site·packing·line-answer) (LineAnswer 𝓤 H A mem run)) where
     module _ (l₀ l₁ l₂ l₃ l₄ l₅ l₆ l₇ l₈ l₉ l₁₀ l₁₁ l₁₂ l₁₃ l₁₄ l₁₅ l₁₆ l₁₇ l₁₈ l₁₉ l₂₀ l₂₁ l₂₂ : ℕ) where
       after-line-answer : (r : Heard) (w : Val) (near′ : List ℕ) (far′ : List ℕ) (slots′ : List ℕ) (daily′ : List ℕ) (is : Is S.the-row r (w ∷ [])) (e : EachLent (length (readings .now)) (length (curve .now)) (λ rs c. hearsBack r (world near′ far′ slots′ daily′ (seen (set rs (r .slot) (r .reading))) c) ≡ lineOf (view self) (line .now) (world (near .now) (far .now) (slots .now) (daily .now) (seen rs) c))) (l-near : length near′ ≡ length (near .now)) (l-far : length far′ ≡ length (far .now)) (l-slots : length slots′ ≡ length (slots .now)) (l-daily : length daily′ ≡ length (daily .now)) (r₁ : Unit {0}) (w₁ : Val) (readings′ : List Reading) (e₁ : readings′ ≡ set (readings .now) (r .slot) (r .reading)) (l-readings : length readings′ ≡ length (readings .now)) (r₂ : Opened) (w₂ : Val) (is₂ : Is O.the-row r₂ (w₂ ∷ [])) (e₂ : (x : World) → handsBack r₂ x ≡ hearsBack r x) → Sq W (‵ (flft κ₅ q₅) ∷ ‵ (finally R.the-row (readings .name) readings′) ∷ ‵ (flft κ₄ q₄) ∷ ‵ (flft κ₃ q₃) ∷ ‵ (flft κ₂ q₂) ∷ ‵ (flft κ₁ q₁) ∷ ‵ (flft κ₀ q₀) ∷ ‵ (finally u32 (daily .name) daily′) ∷ ‵ (finally u16 (slots .name) slots′) ∷ ‵ (finally u32 (far .name) far′) ∷ ‵ (finally u32 (near .name) near′) ∷ ‵ (flft κ₆ q₆) ∷ ‵ Own-line ∷ ‵ Own-curve ∷ ‵ (fat fullShare (sliceTy (tyRef erased mut (pointee (R.the-row .written)))) l₂₂ 0 v-readings) ∷ ‵ (fdies (sliceTy (tyRef erased mut (pointee (R.the-row .written)))) l₂₂) ∷ ‵ (fat fullShare (tyRef erased mut (pointee (R.the-row .written))) l₂₁ 0 (vptr (readings .ptr .0) (readings .ptr .1))) ∷ ‵ (fdies (tyRef erased mut (pointee (R.the-row .written))) l₂₁) ∷ ‵ (fat fullShare tyUnit l₂₀ 0 w₁) ∷ ‵ (fdies tyUnit l₂₀) ∷ ‵ (fat fullShare (tyInt w64) l₁₉ 0 (vint w64 (length (curve .now)))) ∷ ‵ (fdies (tyInt w64) l₁₉) ∷ ‵ (fat fullShare (tyInt w64) l₁₈ 0 (vint w64 (length (readings .now)))) ∷ ‵ (fdies (tyInt w64) l₁₈) ∷ ‵ (fat fullShare (sliceTy (tyRef erased mut (tyInt w32))) l₁₇ 0 v-daily) ∷ ‵ (fdies (sliceTy (tyRef erased mut (tyInt w32))) l₁₇) ∷ ‵ (fat fullShare (tyRef erased mut (tyInt w32)) l₁₆ 0 (vptr (daily .ptr .0) (daily .ptr .1))) ∷ ‵ (fdies (tyRef erased mut (tyInt w32)) l₁₆) ∷ ‵ (fat fullShare (sliceTy (tyRef erased mut (tyInt w16))) l₁₅ 0 v-slots) ∷ ‵ (fdies (sliceTy (tyRef erased mut (tyInt w16))) l₁₅) ∷ ‵ (fat fullShare (tyRef erased mut (tyInt w16)) l₁₄ 0 (vptr (slots .ptr .0) (slots .ptr .1))) ∷ ‵ (fdies (tyRef erased mut (tyInt w16)) l₁₄) ∷ ‵ (fat fullShare (sliceTy (tyRef erased mut (tyInt w32))) l₁₃ 0 v-far) ∷ ‵ (fdies (sliceTy (tyRef erased mut (tyInt w32))) l₁₃) ∷ ‵ (fat fullShare (tyRef erased mut (tyInt w32)) l₁₂ 0 (vptr (far .ptr .0) (far .ptr .1))) ∷ ‵ (fdies (tyRef erased mut (tyInt w32)) l₁₂) ∷ ‵ (fat fullShare (sliceTy (tyRef erased mut (tyInt w32))) l₁₁ 0 v-near) ∷ ‵ (fdies (sliceTy (tyRef erased mut (tyInt w32))) l₁₁) ∷ ‵ (fat fullShare (tyRef erased mut (tyInt w32)) l₁₀ 0 (vptr (near .ptr .0) (near .ptr .1))) ∷ ‵ (fdies (tyRef erased mut (tyInt w32)) l₁₀) ∷ ‵ (fat fullShare tyS l₉ 0 (LL.val S.the-type S′.the-laws r)) ∷ ‵ (fdies tyS l₉) ∷ ‵ (fat fullShare (sliceTy (tyRef (named 6) imm (tyInt w64))) l₈ 0 v-curve) ∷ ‵ (fdies (sliceTy (tyRef (named 6) imm (tyInt w64))) l₈) ∷ ‵ (fat fullShare (sliceTy (tyRef (named 5) mut (pointee (R.the-row .written)))) l₇ 0 v-readings) ∷ ‵ (fdies (sliceTy (tyRef (named 5) mut (pointee (R.the-row .written)))) l₇) ∷ ‵ (fat fullShare (sliceTy (tyRef (named 4) mut (tyInt w32))) l₆ 0 v-daily) ∷ ‵ (fdies (sliceTy (tyRef (named 4) mut (tyInt w32))) l₆) ∷ ‵ (fat fullShare (sliceTy (tyRef (named 3) mut (tyInt w16))) l₅ 0 v-slots) ∷ ‵ (fdies (sliceTy (tyRef (named 3) mut (tyInt w16))) l₅) ∷ ‵ (fat fullShare (sliceTy (tyRef (named 2) mut (tyInt w32))) l₄ 0 v-far) ∷ ‵ (fdies (sliceTy (tyRef (named 2) mut (tyInt w32))) l₄) ∷ ‵ (fat fullShare (sliceTy (tyRef (named 1) mut (tyInt w32))) l₃ 0 v-near) ∷ ‵ (fdies (sliceTy (tyRef (named 1) mut (tyInt w32))) l₃) ∷ ‵ (fat fullShare (sliceTy (tyRef (named 0) imm (tyInt w8))) l₂ 0 v-line) ∷ ‵ (fdies (sliceTy (tyRef (named 0) imm (tyInt w8))) l₂) ∷ ‵ (fat fullShare tyT l₁ 0 (LL.val T.the-type T′.the-laws self)) ∷ ‵ (fdies tyT l₁) ∷ ‵ (fat fullShare tyO l₀ 0 w₂) ∷ ‵ (fdies tyO l₀) ∷ []) (runs C Λ (En l₀ l₁ l₂ l₃ l₄ l₅ l₆ l₇ l₈ l₉ l₁₀ l₁₁ l₁₂ l₁₃ l₁₄ l₁₅ l₁₆ l₁₇ l₁₈ l₁₉ l₂₀ l₂₁ l₂₂) pieces.t-16 (atRet (En l₀ l₁ l₂ l₃ l₄ l₅ l₆ l₇ l₈ l₉ l₁₀ l₁₁ l₁₂ l₁₃ l₁₄ l₁₅ l₁₆ l₁₇ l₁₈ l₁₉ l₂₀ l₂₁ l₂₂) Post))
       after-line-answer r w near′ far′ slots′ daily′ is e l-near l-far l-slots l-daily r₁ w₁ readings′ e₁ l-readings r₂ w₂ is₂ e₂ =
@@ -221,8 +218,8 @@ module _ {M : Type 1} (𝓤 : URA M) (H : Heap 𝓤) (A : Atoms 𝓤) (W : Given
           drop ! $ split ! $ move ! (1 ∷ []) $ peeks ! O.the-row (Is (O.the-row)) (shows 𝓤 H A (O.the-row)) r₂ (w₂ ∷ []) (λ is₂. land ! (from ! (stop !)) (init ! 60 refl (LL.lawful O.the-type O′.the-laws 𝓤 H A W .typed r₂ _ is₂ .0)) $ drop ! $ drop ! $
           after-line-answer r w near′ far′ slots′ daily′ is e l-near l-far l-slots l-daily r₁ w₁ readings′ e₁ l-readings r₂ w₂ is₂ e₂)))))
 
-      after-hear-line : (r : Heard) (w : Val) (near′ : List ℕ) (far′ : List ℕ) (slots′ : List ℕ) (daily′ : List ℕ) (is : Is S.the-row r (w ∷ [])) (e : EachLent (length (readings .now)) (length (curve .now)) (λ rs c. hearsBack r (world near′ far′ slots′ daily′ (seen (set rs (r .slot) (r .reading))) c) ≡ lineOf (view self) (line .now) (world (near .now) (far .now) (slots .now) (daily .now) (seen rs) c))) (l-near : length near′ ≡ length (near .now)) (l-far : length far′ ≡ length (far .now)) (l-slots : length slots′ ≡ length (slots .now)) (l-daily : length daily′ ≡ length (daily .now)) → Sq W (‵ (flft κ₄ q₄) ∷ ‵ (flft κ₃ q₃) ∷ ‵ (flft κ₂ q₂) ∷ ‵ (flft κ₁ q₁) ∷ ‵ (flft κ₀ q₀) ∷ ‵ (finally u32 (daily .name) daily′) ∷ ‵ (finally u16 (slots .name) slots′) ∷ ‵ (finally u32 (far .name) far′) ∷ ‵ (finally u32 (near .name) near′) ∷ ‵ (flft κ₅ q₅) ∷ ‵ (flft κ₆ q₆) ∷ ‵ Own-line ∷ ‵ Own-readings ∷ ‵ Own-curve ∷ ‵ (froom (sliceTy (tyRef erased mut (pointee (R.the-row .written)))) l₂₂ 0) ∷ ‵ (fdies (sliceTy (tyRef erased mut (pointee (R.the-row .written)))) l₂₂) ∷ ‵ (froom (tyRef erased mut (pointee (R.the-row .written))) l₂₁ 0) ∷ ‵ (fdies (tyRef erased mut (pointee (R.the-row .written))) l₂₁) ∷ ‵ (froom tyUnit l₂₀ 0) ∷ ‵ (fdies tyUnit l₂₀) ∷ ‵ (fat fullShare (tyInt w64) l₁₉ 0 (vint w64 (length (curve .now)))) ∷ ‵ (fdies (tyInt w64) l₁₉) ∷ ‵ (fat fullShare (tyInt w64) l₁₈ 0 (vint w64 (length (readings .now)))) ∷ ‵ (fdies (tyInt w64) l₁₈) ∷ ‵ (fat fullShare (sliceTy (tyRef erased mut (tyInt w32))) l₁₇ 0 v-daily) ∷ ‵ (fdies (sliceTy (tyRef erased mut (tyInt w32))) l₁₇) ∷ ‵ (fat fullShare (tyRef erased mut (tyInt w32)) l₁₆ 0 (vptr (daily .ptr .0) (daily .ptr .1))) ∷ ‵ (fdies (tyRef erased mut (tyInt w32)) l₁₆) ∷ ‵ (fat fullShare (sliceTy (tyRef erased mut (tyInt w16))) l₁₅ 0 v-slots) ∷ ‵ (fdies (sliceTy (tyRef erased mut (tyInt w16))) l₁₅) ∷ ‵ (fat fullShare (tyRef erased mut (tyInt w16)) l₁₄ 0 (vptr (slots .ptr .0) (slots .ptr .1))) ∷ ‵ (fdies (tyRef erased mut (tyInt w16)) l₁₄) ∷ ‵ (fat fullShare (sliceTy (tyRef erased mut (tyInt w32))) l₁₃ 0 v-far) ∷ ‵ (fdies (sliceTy (tyRef erased mut (tyInt w32))) l₁₃) ∷ ‵ (fat fullShare (tyRef erased mut (tyInt w32)) l₁₂ 0 (vptr (far .ptr .0) (far .ptr .1))) ∷ ‵ (fdies (tyRef erased mut (tyInt w32)) l₁₂) ∷ ‵ (fat fullShare (sliceTy (tyRef erased mut (tyInt w32))) l₁₁ 0 v-near) ∷ ‵ (fdies (sliceTy (tyRef erased mut (tyInt w32))) l₁₁) ∷ ‵ (fat fullShare (tyRef erased mut (tyInt w32)) l₁₀ 0 (vptr (near .ptr .0) (near .ptr .1))) ∷ ‵ (fdies (tyRef erased mut (tyInt w32)) l₁₀) ∷ ‵ (fat fullShare tyS l₉ 0 (LL.val S.the-type S′.the-laws r)) ∷ ‵ (fdies tyS l₉) ∷ ‵ (fat fullShare (sliceTy (tyRef (named 6) imm (tyInt w64))) l₈ 0 v-curve) ∷ ‵ (fdies (sliceTy (tyRef (named 6) imm (tyInt w64))) l₈) ∷ ‵ (fat fullShare (sliceTy (tyRef (named 5) mut (pointee (R.the-row .written)))) l₇ 0 v-readings) ∷ ‵ (fdies (sliceTy (tyRef (named 5) mut (pointee (R.the-row .written)))) l₇) ∷ ‵ (fat fullShare (sliceTy (tyRef (named 4) mut (tyInt w32))) l₆ 0 v-daily) ∷ ‵ (fdies (sliceTy (tyRef (named 4) mut (tyInt w32))) l₆) ∷ ‵ (fat fullShare (sliceTy (tyRef (named 3) mut (tyInt w16))) l₅ 0 v-slots) ∷ ‵ (fdies (sliceTy (tyRef (named 3) mut (tyInt w16))) l₅) ∷ ‵ (fat fullShare (sliceTy (tyRef (named 2) mut (tyInt w32))) l₄ 0 v-far) ∷ ‵ (fdies (sliceTy (tyRef (named 2) mut (tyInt w32))) l₄) ∷ ‵ (fat fullShare (sliceTy (tyRef (named 1) mut (tyInt w32))) l₃ 0 v-near) ∷ ‵ (fdies (sliceTy (tyRef (named 1) mut (tyInt w32))) l₃) ∷ ‵ (fat fullShare (sliceTy (tyRef (named 0) imm (tyInt w8))) l₂ 0 v-line) ∷ ‵ (fdies (sliceTy (tyRef (named 0) imm (tyInt w8))) l₂) ∷ ‵ (fat fullShare tyT l₁ 0 (LL.val T.the-type T′.the-laws self)) ∷ ‵ (fdies tyT l₁) ∷ ‵ (froom tyO l₀ 0) ∷ ‵ (fdies tyO l₀) ∷ []) (runs C Λ (En l₀ l₁ l₂ l₃ l₄ l₅ l₆ l₇ l₈ l₉ l₁₀ l₁₁ l₁₂ l₁₃ l₁₄ l₁₅ l₁₆ l₁₇ l₁₈ l₁₉ l₂₀ l₂₁ l₂₂) pieces.t-12 (atRet (En l₀ l₁ l₂ l₃ l₄ l₅ l₆ l₇ l₈ l₉ l₁₀ l₁₁ l₁₂ l₁₃ l₁₄ l₁₅ l₁₆ l₁₇ l₁₈ l₁₉ l₂₀ l₂₁ l₂₂) Post))
-      after-hear-line r w near′ far′ slots′ daily′ is e l-near l-far l-slots l-daily =
+      after-hear : (r : Heard) (w : Val) (near′ : List ℕ) (far′ : List ℕ) (slots′ : List ℕ) (daily′ : List ℕ) (is : Is S.the-row r (w ∷ [])) (e : EachLent (length (readings .now)) (length (curve .now)) (λ rs c. hearsBack r (world near′ far′ slots′ daily′ (seen (set rs (r .slot) (r .reading))) c) ≡ lineOf (view self) (line .now) (world (near .now) (far .now) (slots .now) (daily .now) (seen rs) c))) (l-near : length near′ ≡ length (near .now)) (l-far : length far′ ≡ length (far .now)) (l-slots : length slots′ ≡ length (slots .now)) (l-daily : length daily′ ≡ length (daily .now)) → Sq W (‵ (flft κ₄ q₄) ∷ ‵ (flft κ₃ q₃) ∷ ‵ (flft κ₂ q₂) ∷ ‵ (flft κ₁ q₁) ∷ ‵ (flft κ₀ q₀) ∷ ‵ (finally u32 (daily .name) daily′) ∷ ‵ (finally u16 (slots .name) slots′) ∷ ‵ (finally u32 (far .name) far′) ∷ ‵ (finally u32 (near .name) near′) ∷ ‵ (flft κ₅ q₅) ∷ ‵ (flft κ₆ q₆) ∷ ‵ Own-line ∷ ‵ Own-readings ∷ ‵ Own-curve ∷ ‵ (froom (sliceTy (tyRef erased mut (pointee (R.the-row .written)))) l₂₂ 0) ∷ ‵ (fdies (sliceTy (tyRef erased mut (pointee (R.the-row .written)))) l₂₂) ∷ ‵ (froom (tyRef erased mut (pointee (R.the-row .written))) l₂₁ 0) ∷ ‵ (fdies (tyRef erased mut (pointee (R.the-row .written))) l₂₁) ∷ ‵ (froom tyUnit l₂₀ 0) ∷ ‵ (fdies tyUnit l₂₀) ∷ ‵ (fat fullShare (tyInt w64) l₁₉ 0 (vint w64 (length (curve .now)))) ∷ ‵ (fdies (tyInt w64) l₁₉) ∷ ‵ (fat fullShare (tyInt w64) l₁₈ 0 (vint w64 (length (readings .now)))) ∷ ‵ (fdies (tyInt w64) l₁₈) ∷ ‵ (fat fullShare (sliceTy (tyRef erased mut (tyInt w32))) l₁₇ 0 v-daily) ∷ ‵ (fdies (sliceTy (tyRef erased mut (tyInt w32))) l₁₇) ∷ ‵ (fat fullShare (tyRef erased mut (tyInt w32)) l₁₆ 0 (vptr (daily .ptr .0) (daily .ptr .1))) ∷ ‵ (fdies (tyRef erased mut (tyInt w32)) l₁₆) ∷ ‵ (fat fullShare (sliceTy (tyRef erased mut (tyInt w16))) l₁₅ 0 v-slots) ∷ ‵ (fdies (sliceTy (tyRef erased mut (tyInt w16))) l₁₅) ∷ ‵ (fat fullShare (tyRef erased mut (tyInt w16)) l₁₄ 0 (vptr (slots .ptr .0) (slots .ptr .1))) ∷ ‵ (fdies (tyRef erased mut (tyInt w16)) l₁₄) ∷ ‵ (fat fullShare (sliceTy (tyRef erased mut (tyInt w32))) l₁₃ 0 v-far) ∷ ‵ (fdies (sliceTy (tyRef erased mut (tyInt w32))) l₁₃) ∷ ‵ (fat fullShare (tyRef erased mut (tyInt w32)) l₁₂ 0 (vptr (far .ptr .0) (far .ptr .1))) ∷ ‵ (fdies (tyRef erased mut (tyInt w32)) l₁₂) ∷ ‵ (fat fullShare (sliceTy (tyRef erased mut (tyInt w32))) l₁₁ 0 v-near) ∷ ‵ (fdies (sliceTy (tyRef erased mut (tyInt w32))) l₁₁) ∷ ‵ (fat fullShare (tyRef erased mut (tyInt w32)) l₁₀ 0 (vptr (near .ptr .0) (near .ptr .1))) ∷ ‵ (fdies (tyRef erased mut (tyInt w32)) l₁₀) ∷ ‵ (fat fullShare tyS l₉ 0 (LL.val S.the-type S′.the-laws r)) ∷ ‵ (fdies tyS l₉) ∷ ‵ (fat fullShare (sliceTy (tyRef (named 6) imm (tyInt w64))) l₈ 0 v-curve) ∷ ‵ (fdies (sliceTy (tyRef (named 6) imm (tyInt w64))) l₈) ∷ ‵ (fat fullShare (sliceTy (tyRef (named 5) mut (pointee (R.the-row .written)))) l₇ 0 v-readings) ∷ ‵ (fdies (sliceTy (tyRef (named 5) mut (pointee (R.the-row .written)))) l₇) ∷ ‵ (fat fullShare (sliceTy (tyRef (named 4) mut (tyInt w32))) l₆ 0 v-daily) ∷ ‵ (fdies (sliceTy (tyRef (named 4) mut (tyInt w32))) l₆) ∷ ‵ (fat fullShare (sliceTy (tyRef (named 3) mut (tyInt w16))) l₅ 0 v-slots) ∷ ‵ (fdies (sliceTy (tyRef (named 3) mut (tyInt w16))) l₅) ∷ ‵ (fat fullShare (sliceTy (tyRef (named 2) mut (tyInt w32))) l₄ 0 v-far) ∷ ‵ (fdies (sliceTy (tyRef (named 2) mut (tyInt w32))) l₄) ∷ ‵ (fat fullShare (sliceTy (tyRef (named 1) mut (tyInt w32))) l₃ 0 v-near) ∷ ‵ (fdies (sliceTy (tyRef (named 1) mut (tyInt w32))) l₃) ∷ ‵ (fat fullShare (sliceTy (tyRef (named 0) imm (tyInt w8))) l₂ 0 v-line) ∷ ‵ (fdies (sliceTy (tyRef (named 0) imm (tyInt w8))) l₂) ∷ ‵ (fat fullShare tyT l₁ 0 (LL.val T.the-type T′.the-laws self)) ∷ ‵ (fdies tyT l₁) ∷ ‵ (froom tyO l₀ 0) ∷ ‵ (fdies tyO l₀) ∷ []) (runs C Λ (En l₀ l₁ l₂ l₃ l₄ l₅ l₆ l₇ l₈ l₉ l₁₀ l₁₁ l₁₂ l₁₃ l₁₄ l₁₅ l₁₆ l₁₇ l₁₈ l₁₉ l₂₀ l₂₁ l₂₂) pieces.t-12 (atRet (En l₀ l₁ l₂ l₃ l₄ l₅ l₆ l₇ l₈ l₉ l₁₀ l₁₁ l₁₂ l₁₃ l₁₄ l₁₅ l₁₆ l₁₇ l₁₈ l₁₉ l₂₀ l₂₁ l₂₂) Post))
+      after-hear r w near′ far′ slots′ daily′ is e l-near l-far l-slots l-daily =
           assigns ! (addr ! (from ! (fld ! refl (hop ! (look-in ! 44 (sub ! 0 refl (whole !))) (stop !))))) (from ! (stop !)) (init ! 16 refl (tt, tt)) $ assigns ! (agg ! (and-then ! (load ! (from ! (stop !)) (look ! 16 refl)) (and-then ! (load ! (from ! (fld ! refl (stop !))) (look-in ! 44 (sub ! 1 refl (whole !)))) (no-more !)))) (from ! (stop !)) (init ! 14 refl (tt, (tt, (record { fits = room-readings .0 }, tt)))) $
           -- `put`
           move ! (9 ∷ 12 ∷ []) $ group ! 2 $ use1 W (raw (PutR 𝓤 H A mem run .pre (to-put r w))) (goes-put r w is) $
@@ -236,14 +233,14 @@ module _ {M : Type 1} (𝓤 : URA M) (H : Heap 𝓤) (A : Atoms 𝓤) (W : Given
       begun : Sq W (‵ (flft κ₀ q₀) ∷ ‵ (flft κ₁ q₁) ∷ ‵ (flft κ₂ q₂) ∷ ‵ (flft κ₃ q₃) ∷ ‵ (flft κ₄ q₄) ∷ ‵ (flft κ₅ q₅) ∷ ‵ (flft κ₆ q₆) ∷ ‵ Own-line ∷ ‵ Own-line ∷ ‵ Own-near ∷ ‵ Own-far ∷ ‵ Own-slots ∷ ‵ Own-daily ∷ ‵ Own-readings ∷ ‵ Own-curve ∷ ‵ (froom (sliceTy (tyRef erased mut (pointee (R.the-row .written)))) l₂₂ 0) ∷ ‵ (fdies (sliceTy (tyRef erased mut (pointee (R.the-row .written)))) l₂₂) ∷ ‵ (froom (tyRef erased mut (pointee (R.the-row .written))) l₂₁ 0) ∷ ‵ (fdies (tyRef erased mut (pointee (R.the-row .written))) l₂₁) ∷ ‵ (froom tyUnit l₂₀ 0) ∷ ‵ (fdies tyUnit l₂₀) ∷ ‵ (froom (tyInt w64) l₁₉ 0) ∷ ‵ (fdies (tyInt w64) l₁₉) ∷ ‵ (froom (tyInt w64) l₁₈ 0) ∷ ‵ (fdies (tyInt w64) l₁₈) ∷ ‵ (froom (sliceTy (tyRef erased mut (tyInt w32))) l₁₇ 0) ∷ ‵ (fdies (sliceTy (tyRef erased mut (tyInt w32))) l₁₇) ∷ ‵ (froom (tyRef erased mut (tyInt w32)) l₁₆ 0) ∷ ‵ (fdies (tyRef erased mut (tyInt w32)) l₁₆) ∷ ‵ (froom (sliceTy (tyRef erased mut (tyInt w16))) l₁₅ 0) ∷ ‵ (fdies (sliceTy (tyRef erased mut (tyInt w16))) l₁₅) ∷ ‵ (froom (tyRef erased mut (tyInt w16)) l₁₄ 0) ∷ ‵ (fdies (tyRef erased mut (tyInt w16)) l₁₄) ∷ ‵ (froom (sliceTy (tyRef erased mut (tyInt w32))) l₁₃ 0) ∷ ‵ (fdies (sliceTy (tyRef erased mut (tyInt w32))) l₁₃) ∷ ‵ (froom (tyRef erased mut (tyInt w32)) l₁₂ 0) ∷ ‵ (fdies (tyRef erased mut (tyInt w32)) l₁₂) ∷ ‵ (froom (sliceTy (tyRef erased mut (tyInt w32))) l₁₁ 0) ∷ ‵ (fdies (sliceTy (tyRef erased mut (tyInt w32))) l₁₁) ∷ ‵ (froom (tyRef erased mut (tyInt w32)) l₁₀ 0) ∷ ‵ (fdies (tyRef erased mut (tyInt w32)) l₁₀) ∷ ‵ (froom tyS l₉ 0) ∷ ‵ (fdies tyS l₉) ∷ ‵ (fat fullShare (sliceTy (tyRef (named 6) imm (tyInt w64))) l₈ 0 v-curve) ∷ ‵ (fdies (sliceTy (tyRef (named 6) imm (tyInt w64))) l₈) ∷ ‵ (fat fullShare (sliceTy (tyRef (named 5) mut (pointee (R.the-row .written)))) l₇ 0 v-readings) ∷ ‵ (fdies (sliceTy (tyRef (named 5) mut (pointee (R.the-row .written)))) l₇) ∷ ‵ (fat fullShare (sliceTy (tyRef (named 4) mut (tyInt w32))) l₆ 0 v-daily) ∷ ‵ (fdies (sliceTy (tyRef (named 4) mut (tyInt w32))) l₆) ∷ ‵ (fat fullShare (sliceTy (tyRef (named 3) mut (tyInt w16))) l₅ 0 v-slots) ∷ ‵ (fdies (sliceTy (tyRef (named 3) mut (tyInt w16))) l₅) ∷ ‵ (fat fullShare (sliceTy (tyRef (named 2) mut (tyInt w32))) l₄ 0 v-far) ∷ ‵ (fdies (sliceTy (tyRef (named 2) mut (tyInt w32))) l₄) ∷ ‵ (fat fullShare (sliceTy (tyRef (named 1) mut (tyInt w32))) l₃ 0 v-near) ∷ ‵ (fdies (sliceTy (tyRef (named 1) mut (tyInt w32))) l₃) ∷ ‵ (fat fullShare (sliceTy (tyRef (named 0) imm (tyInt w8))) l₂ 0 v-line) ∷ ‵ (fdies (sliceTy (tyRef (named 0) imm (tyInt w8))) l₂) ∷ ‵ (fat fullShare tyT l₁ 0 (LL.val T.the-type T′.the-laws self)) ∷ ‵ (fdies tyT l₁) ∷ ‵ (froom tyO l₀ 0) ∷ ‵ (fdies tyO l₀) ∷ []) (runs C Λ (En l₀ l₁ l₂ l₃ l₄ l₅ l₆ l₇ l₈ l₉ l₁₀ l₁₁ l₁₂ l₁₃ l₁₄ l₁₅ l₁₆ l₁₇ l₁₈ l₁₉ l₂₀ l₂₁ l₂₂) pieces.t-1 (atRet (En l₀ l₁ l₂ l₃ l₄ l₅ l₆ l₇ l₈ l₉ l₁₀ l₁₁ l₁₂ l₁₃ l₁₄ l₁₅ l₁₆ l₁₇ l₁₈ l₁₉ l₂₀ l₂₁ l₂₂) Post))
       begun =
           assigns ! (addr ! (from ! (fld ! refl (hop ! (look-in ! 53 (sub ! 0 refl (whole !))) (stop !))))) (from ! (stop !)) (init ! 39 refl (tt, tt)) $ assigns ! (agg ! (and-then ! (load ! (from ! (stop !)) (look ! 39 refl)) (and-then ! (load ! (from ! (fld ! refl (stop !))) (look-in ! 53 (sub ! 1 refl (whole !)))) (no-more !)))) (from ! (stop !)) (init ! 37 refl (tt, (tt, (record { fits = room-near .0 }, tt)))) $ assigns ! (addr ! (from ! (fld ! refl (hop ! (look-in ! 51 (sub ! 0 refl (whole !))) (stop !))))) (from ! (stop !)) (init ! 35 refl (tt, tt)) $ assigns ! (agg ! (and-then ! (load ! (from ! (stop !)) (look ! 35 refl)) (and-then ! (load ! (from ! (fld ! refl (stop !))) (look-in ! 51 (sub ! 1 refl (whole !)))) (no-more !)))) (from ! (stop !)) (init ! 33 refl (tt, (tt, (record { fits = room-far .0 }, tt)))) $ assigns ! (addr ! (from ! (fld ! refl (hop ! (look-in ! 49 (sub ! 0 refl (whole !))) (stop !))))) (from ! (stop !)) (init ! 31 refl (tt, tt)) $ assigns ! (agg ! (and-then ! (load ! (from ! (stop !)) (look ! 31 refl)) (and-then ! (load ! (from ! (fld ! refl (stop !))) (look-in ! 49 (sub ! 1 refl (whole !)))) (no-more !)))) (from ! (stop !)) (init ! 29 refl (tt, (tt, (record { fits = room-slots .0 }, tt)))) $ assigns ! (addr ! (from ! (fld ! refl (hop ! (look-in ! 47 (sub ! 0 refl (whole !))) (stop !))))) (from ! (stop !)) (init ! 27 refl (tt, tt)) $ assigns ! (agg ! (and-then ! (load ! (from ! (stop !)) (look ! 27 refl)) (and-then ! (load ! (from ! (fld ! refl (stop !))) (look-in ! 47 (sub ! 1 refl (whole !)))) (no-more !)))) (from ! (stop !)) (init ! 25 refl (tt, (tt, (record { fits = room-daily .0 }, tt)))) $ assigns ! (of-opd ! (load ! (from ! (fld ! refl (stop !))) (look-in ! 45 (sub ! 1 refl (whole !))))) (from ! (stop !)) (init ! 23 refl (tt, record { fits = room-readings .0 })) $ assigns ! (of-opd ! (load ! (from ! (fld ! refl (stop !))) (look-in ! 43 (sub ! 1 refl (whole !))))) (from ! (stop !)) (init ! 21 refl (tt, record { fits = room-curve .0 })) $
-          -- `hear_line`
-          move ! (0 ∷ 1 ∷ 2 ∷ 3 ∷ 4 ∷ 8 ∷ 9 ∷ 10 ∷ 11 ∷ 12 ∷ []) $ group ! 10 $ use1 W (raw (HearLine 𝓤 H A mem run .pre to-hear-line)) (goes-hear-line) $
-          calls-at ! fm (HearLine 𝓤 H A mem run) known-hear-line to-hear-line (and-then ! (load ! (from ! (fld ! refl (stop !))) (look-in ! 48 (sub ! 0 refl (whole !)))) (and-then ! (load ! (from ! (fld ! refl (stop !))) (look-in ! 48 (sub ! 1 refl (whole !)))) (and-then ! (load ! (from ! (fld ! refl (stop !))) (look-in ! 48 (sub ! 2 refl (whole !)))) (and-then ! (load ! (from ! (stop !)) (look ! 46 refl)) (and-then ! (load ! (from ! (stop !)) (look ! 28 refl)) (and-then ! (load ! (from ! (stop !)) (look ! 24 refl)) (and-then ! (load ! (from ! (stop !)) (look ! 20 refl)) (and-then ! (load ! (from ! (stop !)) (look ! 16 refl)) (and-then ! (load ! (from ! (stop !)) (look ! 14 refl)) (and-then ! (load ! (from ! (stop !)) (look ! 12 refl)) (no-more !))))))))))) (λ w.
-          use1 W (later (some (λ (r : Heard). ((‵ (flft κ₀ q₀) ⊛ ‵ (flft κ₁ q₁) ⊛ ‵ (flft κ₂ q₂) ⊛ ‵ (flft κ₃ q₃) ⊛ ‵ (flft κ₄ q₄) ⊛ ‵ ftrue) ⊛ ‵ (S.the-row .own r (w ∷ []))) ⊛ raw (ensured 𝓤 H A hear-line.ended (hear-line.clauses 𝓤 H A mem run) (κ₀, (κ₁, (κ₂, (κ₃, (κ₄, tt))))) (self .state, (self .count, (self .progress, (line, (near, (far, (slots, (daily, (length (readings .now), (length (curve .now), tt)))))))))) tt r)))) (id⊢ 𝓤 _) $ await ! tt $ pick ! (λ r.
-          split ! $ move ! (1 ∷ []) $ use1 W (some (λ (ms : Unit {0} × (Unit {0} × (Unit {0} × (Unit {0} × (List ℕ × (List ℕ × (List ℕ × (List ℕ × (Unit {0} × (Unit {0} × Unit {0})))))))))). ‵ (lasts hear-line.ended (κ₀, (κ₁, (κ₂, (κ₃, (κ₄, tt))))) (self .state, (self .count, (self .progress, (line, (near, (far, (slots, (daily, (length (readings .now), (length (curve .now), tt)))))))))) ms) ⊛ raw (fact 𝓤 (EachLent (length (readings .now)) (length (curve .now)) (λ rs c. hearsBack r (world (ms .1 .1 .1 .1 .0) (ms .1 .1 .1 .1 .1 .0) (ms .1 .1 .1 .1 .1 .1 .0) (ms .1 .1 .1 .1 .1 .1 .1 .0) (seen (set rs (r .slot) (r .reading))) c) ≡ lineOf (view self) (line .now) (world (near .now) (far .now) (slots .now) (daily .now) (seen rs) c)))))) (id⊢ 𝓤 _) $ pick ! (λ ms.
-          split ! $ move ! (1 ∷ []) $ heard ! (EachLent (length (readings .now)) (length (curve .now)) (λ rs c. hearsBack r (world (ms .1 .1 .1 .1 .0) (ms .1 .1 .1 .1 .1 .0) (ms .1 .1 .1 .1 .1 .1 .0) (ms .1 .1 .1 .1 .1 .1 .1 .0) (seen (set rs (r .slot) (r .reading))) c) ≡ lineOf (view self) (line .now) (world (near .now) (far .now) (slots .now) (daily .now) (seen rs) c))) (λ e. fsplit ! $ drop ! $ fsplit ! $ drop ! $ fsplit ! $ drop ! $ fsplit ! $ drop ! $ fsplit ! $ fsplit ! $ move ! (1 ∷ []) $ feqL ! (λ l-near. move ! (1 ∷ []) $ fsplit ! $ fsplit ! $ move ! (1 ∷ []) $ feqL ! (λ l-far. move ! (1 ∷ []) $ fsplit ! $ fsplit ! $ move ! (1 ∷ []) $ feqL ! (λ l-slots. move ! (1 ∷ []) $ fsplit ! $ fsplit ! $ move ! (1 ∷ []) $ feqL ! (λ l-daily. move ! (1 ∷ []) $ fsplit ! $ drop ! $ fsplit ! $ drop ! $
+          -- `hear`
+          move ! (0 ∷ 1 ∷ 2 ∷ 3 ∷ 4 ∷ 8 ∷ 9 ∷ 10 ∷ 11 ∷ 12 ∷ []) $ group ! 10 $ use1 W (raw (Hear 𝓤 H A mem run .pre to-hear)) (goes-hear) $
+          calls-at ! fm (Hear 𝓤 H A mem run) known-hear to-hear (and-then ! (load ! (from ! (stop !)) (look ! 48 refl)) (and-then ! (load ! (from ! (stop !)) (look ! 46 refl)) (and-then ! (load ! (from ! (stop !)) (look ! 28 refl)) (and-then ! (load ! (from ! (stop !)) (look ! 24 refl)) (and-then ! (load ! (from ! (stop !)) (look ! 20 refl)) (and-then ! (load ! (from ! (stop !)) (look ! 16 refl)) (and-then ! (load ! (from ! (stop !)) (look ! 14 refl)) (and-then ! (load ! (from ! (stop !)) (look ! 12 refl)) (no-more !))))))))) (λ w.
+          use1 W (later (some (λ (r : Heard). ((‵ (flft κ₀ q₀) ⊛ ‵ (flft κ₁ q₁) ⊛ ‵ (flft κ₂ q₂) ⊛ ‵ (flft κ₃ q₃) ⊛ ‵ (flft κ₄ q₄) ⊛ ‵ ftrue) ⊛ ‵ (S.the-row .own r (w ∷ []))) ⊛ raw (ensured 𝓤 H A hear.ended (hear.clauses 𝓤 H A mem run) (κ₀, (κ₁, (κ₂, (κ₃, (κ₄, tt))))) (self, (line, (near, (far, (slots, (daily, (length (readings .now), (length (curve .now), tt)))))))) tt r)))) (id⊢ 𝓤 _) $ await ! tt $ pick ! (λ r.
+          split ! $ move ! (1 ∷ []) $ use1 W (some (λ (ms : Unit {0} × (Unit {0} × (List ℕ × (List ℕ × (List ℕ × (List ℕ × (Unit {0} × (Unit {0} × Unit {0})))))))). ‵ (lasts hear.ended (κ₀, (κ₁, (κ₂, (κ₃, (κ₄, tt))))) (self, (line, (near, (far, (slots, (daily, (length (readings .now), (length (curve .now), tt)))))))) ms) ⊛ raw (fact 𝓤 (EachLent (length (readings .now)) (length (curve .now)) (λ rs c. hearsBack r (world (ms .1 .1 .0) (ms .1 .1 .1 .0) (ms .1 .1 .1 .1 .0) (ms .1 .1 .1 .1 .1 .0) (seen (set rs (r .slot) (r .reading))) c) ≡ lineOf (view self) (line .now) (world (near .now) (far .now) (slots .now) (daily .now) (seen rs) c)))))) (id⊢ 𝓤 _) $ pick ! (λ ms.
+          split ! $ move ! (1 ∷ []) $ heard ! (EachLent (length (readings .now)) (length (curve .now)) (λ rs c. hearsBack r (world (ms .1 .1 .0) (ms .1 .1 .1 .0) (ms .1 .1 .1 .1 .0) (ms .1 .1 .1 .1 .1 .0) (seen (set rs (r .slot) (r .reading))) c) ≡ lineOf (view self) (line .now) (world (near .now) (far .now) (slots .now) (daily .now) (seen rs) c))) (λ e. fsplit ! $ drop ! $ fsplit ! $ drop ! $ fsplit ! $ fsplit ! $ move ! (1 ∷ []) $ feqL ! (λ l-near. move ! (1 ∷ []) $ fsplit ! $ fsplit ! $ move ! (1 ∷ []) $ feqL ! (λ l-far. move ! (1 ∷ []) $ fsplit ! $ fsplit ! $ move ! (1 ∷ []) $ feqL ! (λ l-slots. move ! (1 ∷ []) $ fsplit ! $ fsplit ! $ move ! (1 ∷ []) $ feqL ! (λ l-daily. move ! (1 ∷ []) $ fsplit ! $ drop ! $ fsplit ! $ drop ! $
           drop ! $ move ! (4 ∷ []) $ split ! $ move ! (1 ∷ []) $ peeks ! S.the-row (Is (S.the-row)) (shows 𝓤 H A (S.the-row)) r (w ∷ []) (λ is. land ! (from ! (stop !)) (init ! 37 refl (LL.lawful S.the-type S′.the-laws 𝓤 H A W .typed r _ is .0)) $ drop ! $ rewrite ! 36 (λ (u : Val). ‵ (fat fullShare tyS l₉ 0 u)) (ap only (LL.tells S.the-type S′.the-laws r _ is)) refl $ split ! $ move ! (1 ∷ []) $ split ! $ move ! (1 ∷ []) $ split ! $ move ! (1 ∷ []) $ split ! $ move ! (1 ∷ []) $ split ! $ move ! (1 ∷ []) $ drop ! $
-          after-hear-line r w (ms .1 .1 .1 .1 .0) (ms .1 .1 .1 .1 .1 .0) (ms .1 .1 .1 .1 .1 .1 .0) (ms .1 .1 .1 .1 .1 .1 .1 .0) is e l-near l-far l-slots l-daily)))))))))
+          after-hear r w (ms .1 .1 .0) (ms .1 .1 .1 .0) (ms .1 .1 .1 .1 .0) (ms .1 .1 .1 .1 .1 .0) is e l-near l-far l-slots l-daily)))))))))
 
     walk : ent 𝓤 (onEntry 𝓤 H A f.signature (κ₀, (κ₁, (κ₂, (κ₃, (κ₄, (κ₅, (κ₆, tt))))))) (q₀, (q₁, (q₂, (q₃, (q₄, (q₅, (q₆, tt))))))) a at) (WpFn 𝓤 H C Λ code.function (LL.val T.the-type T′.the-laws self ∷ v-line ∷ v-near ∷ v-far ∷ v-slots ∷ v-daily ∷ v-readings ∷ v-curve ∷ []) Post)
     walk =
@@ -254,20 +251,20 @@ module _ {M : Type 1} (𝓤 : URA M) (H : Heap 𝓤) (A : Atoms 𝓤) (W : Given
         begun l₀ l₁ l₂ l₃ l₄ l₅ l₆ l₇ l₈ l₉ l₁₀ l₁₁ l₁₂ l₁₃ l₁₄ l₁₅ l₁₆ l₁₇ l₁₈ l₁₉ l₂₀ l₂₁ l₂₂)))))))))))))))))))))))
 
 module _ {M : Type 1} (𝓤 : URA M) (H : Heap 𝓤) (A : Atoms 𝓤) (W : Given 𝓤 H A) (mem : Memory → SProp 𝓤) (run : Routine → Fun 𝓤) where
-  walks : (C : Calls 𝓤 H) (Λ : Loops 𝓤 H) → FmC 𝓤 H (W .laws) C → Triple 𝓤 (C #hearing·hear-line) (HearLine 𝓤 H A mem run) → Triple 𝓤 (C #readings·put) (PutR 𝓤 H A mem run) → Triple 𝓤 (C #site·packing·line-answer) (LineAnswer 𝓤 H A mem run) → Walks 𝓤 H A f.ended stayed (WpFn 𝓤 H C Λ code.function) (f.clauses 𝓤 H A mem run)
-  walks C Λ fm known-hear-line known-put known-line-answer = walked 𝓤 H A f.ended stayed (f.clauses 𝓤 H A mem run) (WpFn 𝓤 H C Λ code.function)
+  walks : (C : Calls 𝓤 H) (Λ : Loops 𝓤 H) → FmC 𝓤 H (W .laws) C → Triple 𝓤 (C #site·whole·hear) (Hear 𝓤 H A mem run) → Triple 𝓤 (C #readings·put) (PutR 𝓤 H A mem run) → Triple 𝓤 (C #site·packing·line-answer) (LineAnswer 𝓤 H A mem run) → Walks 𝓤 H A f.ended stayed (WpFn 𝓤 H C Λ code.function) (f.clauses 𝓤 H A mem run)
+  walks C Λ fm known-hear known-put known-line-answer = walked 𝓤 H A f.ended stayed (f.clauses 𝓤 H A mem run) (WpFn 𝓤 H C Λ code.function)
       (λ κs. (LL.vals T.the-type T′.the-laws, (slice-vals, (slice-vals, (slice-vals, (slice-vals, (slice-vals, (slice-vals, (slice-vals, tt)))))))))
       (λ κs. (LL.tells T.the-type T′.the-laws, (shr-slice-tells (named 0) (κs .0) u8, (mut-slice-tells (named 1) (κs .1 .0) u32, (mut-slice-tells (named 2) (κs .1 .1 .0) u32, (mut-slice-tells (named 3) (κs .1 .1 .1 .0) u16, (mut-slice-tells (named 4) (κs .1 .1 .1 .1 .0) u32, (mut-slice-tells (named 5) (κs .1 .1 .1 .1 .1 .0) R.the-row, (shr-slice-tells (named 6) (κs .1 .1 .1 .1 .1 .1 .0) u64, tt)))))))))
       (λ κs qs bounds a g are. via 𝓤 _ (fst∗ 𝓤 _ (emp 𝓤)) (walk 𝓤 H A W mem run (κs .0) (κs .1 .0) (κs .1 .1 .0) (κs .1 .1 .1 .0) (κs .1 .1 .1 .1 .0) (κs .1 .1 .1 .1 .1 .0) (κs .1 .1 .1 .1 .1 .1 .0) (qs .0) (qs .1 .0) (qs .1 .1 .0) (qs .1 .1 .1 .0) (qs .1 .1 .1 .1 .0) (qs .1 .1 .1 .1 .1 .0) (qs .1 .1 .1 .1 .1 .1 .0)
       (a .0) (a .1 .0) (a .1 .1 .0) (a .1 .1 .1 .0) (a .1 .1 .1 .1 .0) (a .1 .1 .1 .1 .1 .0) (a .1 .1 .1 .1 .1 .1 .0) (a .1 .1 .1 .1 .1 .1 .1 .0)
-      (are .0) (are .1 .0 .0 .1) (are .1 .1 .0 .0 .1) (are .1 .1 .1 .0 .0 .1) (are .1 .1 .1 .1 .0 .0 .1) (are .1 .1 .1 .1 .1 .0 .0 .1) (are .1 .1 .1 .1 .1 .1 .0 .0 .1) (are .1 .1 .1 .1 .1 .1 .1 .0 .0 .1) C Λ fm known-hear-line known-put known-line-answer))
+      (are .0) (are .1 .0 .0 .1) (are .1 .1 .0 .0 .1) (are .1 .1 .1 .0 .0 .1) (are .1 .1 .1 .1 .0 .0 .1) (are .1 .1 .1 .1 .1 .0 .0 .1) (are .1 .1 .1 .1 .1 .1 .0 .0 .1) (are .1 .1 .1 .1 .1 .1 .1 .0 .0 .1) C Λ fm known-hear known-put known-line-answer))
 
-meets : {M : Type 1} (𝓤 : URA M) (H : Heap 𝓤) (A : Atoms 𝓤) → Given 𝓤 H A → (mem : Memory → SProp 𝓤) (run : Routine → Fun 𝓤) (𝓣 : Tables 𝓤 H) → Triple 𝓤 (𝓣 .C #hearing·hear-line) (HearLine 𝓤 H A mem run) → Triple 𝓤 (𝓣 .C #readings·put) (PutR 𝓤 H A mem run) → Triple 𝓤 (𝓣 .C #site·packing·line-answer) (LineAnswer 𝓤 H A mem run)
+meets : {M : Type 1} (𝓤 : URA M) (H : Heap 𝓤) (A : Atoms 𝓤) → Given 𝓤 H A → (mem : Memory → SProp 𝓤) (run : Routine → Fun 𝓤) (𝓣 : Tables 𝓤 H) → Triple 𝓤 (𝓣 .C #site·whole·hear) (Hear 𝓤 H A mem run) → Triple 𝓤 (𝓣 .C #readings·put) (PutR 𝓤 H A mem run) → Triple 𝓤 (𝓣 .C #site·packing·line-answer) (LineAnswer 𝓤 H A mem run)
     → Meets 𝓤 H A f.signature (WpFn 𝓤 H (𝓣 .C) (𝓣 .Λ) code.function) (f.spec 𝓤 H A mem run)
-meets 𝓤 H A W mem run 𝓣 known-hear-line known-put known-line-answer =
+meets 𝓤 H A W mem run 𝓣 known-hear known-put known-line-answer =
     walk-meets 𝓤 H A f.ended stayed W
     (goes-none 𝓤 H A W 7 (λ _. T.the-row) yes (λ κs x f. refl), (goes-none-slice 𝓤 H A W 7 (0 ∷ []) tt (plain (λ _. u8)) yes, (goes-gave-slice 𝓤 H A W 7 1 tt (plain (λ _. u32)), (goes-gave-slice 𝓤 H A W 7 2 tt (plain (λ _. u32)), (goes-gave-slice 𝓤 H A W 7 3 tt (plain (λ _. u16)), (goes-gave-slice 𝓤 H A W 7 4 tt (plain (λ _. u32)), (goes-gave-slice 𝓤 H A W 7 5 tt (plain (λ _. R.the-row)), (goes-none-slice 𝓤 H A W 7 (6 ∷ []) tt (plain (λ _. u64)) yes, tt))))))))
-    (f.clauses 𝓤 H A mem run) (WpFn 𝓤 H (𝓣 .C) (𝓣 .Λ) code.function) (WpFn-mono 𝓤 H (W .laws) 𝓣 code.function) (walks 𝓤 H A W mem run (𝓣 .C) (𝓣 .Λ) (fmOf 𝓤 H (W .laws) 𝓣) known-hear-line known-put known-line-answer)
+    (f.clauses 𝓤 H A mem run) (WpFn 𝓤 H (𝓣 .C) (𝓣 .Λ) code.function) (WpFn-mono 𝓤 H (W .laws) 𝓣 code.function) (walks 𝓤 H A W mem run (𝓣 .C) (𝓣 .Λ) (fmOf 𝓤 H (W .laws) 𝓣) known-hear known-put known-line-answer)
 
 pub line-spec : {M : Type 1} → stated.statement M
 unfolding code.routine tablesOf
@@ -275,6 +272,6 @@ line-spec 𝓤 H 𝓜 𝓖 𝓡 =
     entered 𝓤 H (tripleOf 𝓤 H (𝓖 .A) f.signature (f.spec 𝓤 H (𝓖 .A) (𝓜 .mem) (𝓡 .run)))
     (tables 𝓤 H 𝓜 𝓡 code.env .C) (tables 𝓤 H 𝓜 𝓡 code.env .Λ) #site·Record·line code.function (code.unfolded 𝓤 H 𝓜 𝓡)
     (meets 𝓤 H (𝓖 .A) (givenOf 𝓤 H 𝓜 𝓖) (𝓜 .mem) (𝓡 .run) (tablesOf 𝓤 H 𝓜 (tables 𝓤 H 𝓜 𝓡 code.env))
-    (cited 𝓤 H (HearLine 𝓤 H (𝓖 .A) (𝓜 .mem) (𝓡 .run)) 𝓜 𝓡 code.env #hearing·hear-line hear-line-def.routine code.calls-hearing·hear-line (hear-line-thm.met 𝓤 H 𝓜 𝓖 𝓡))
+    (cited 𝓤 H (Hear 𝓤 H (𝓖 .A) (𝓜 .mem) (𝓡 .run)) 𝓜 𝓡 code.env #site·whole·hear hear-def.routine code.calls-site·whole·hear (hear-thm.met 𝓤 H 𝓜 𝓖 𝓡))
     (cited 𝓤 H (PutR 𝓤 H (𝓖 .A) (𝓜 .mem) (𝓡 .run)) 𝓜 𝓡 code.env #readings·put put-def.routine code.calls-readings·put (put-thm.met 𝓤 H 𝓜 𝓖 𝓡))
     (cited 𝓤 H (LineAnswer 𝓤 H (𝓖 .A) (𝓜 .mem) (𝓡 .run)) 𝓜 𝓡 code.env #site·packing·line-answer line-answer-def.routine code.calls-site·packing·line-answer (line-answer-thm.met 𝓤 H 𝓜 𝓖 𝓡)))
