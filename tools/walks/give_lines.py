@@ -11,7 +11,7 @@ D=dict(
     O=dict(name='Opened',mod='Rattle.site.proofs.Opened',decl='Opened',**{'decl-mod':'Rattle.site.specs.declared.Opened'}),
     R=dict(name='Reading',mod='Rattle.readings.proofs.Reading',decl='Reading',**{'decl-mod':'Rattle.readings.specs.declared.Reading'}),
   ),
-  imports=['use Rattle.readings.specs.Readings.{seen}','use Rattle.readings.specs.Columns.{world}','use Rattle.turns.specs.Turns.{turnOf}','use Rattle.turns.specs.Gives.{Gives}','use Rattle.given_lines.proofs.Again.{Lent, lends, returns}','use Rattle.given_lines.proofs.Rests.{rests}','use Rattle.turns.proofs.Given.{Going, going-first, going-next, going-nearer, going-over}'],
+  imports=['use Rattle.readings.specs.Readings.{seen}','use Rattle.readings.specs.Columns.{world}','use Rattle.turns.specs.Turns.{turnOf}','use Rattle.turn_lines.specs.Gives.{Gives}','use Rattle.given_lines.proofs.Again.{Lent, lends, returns}','use Rattle.given_lines.proofs.Rests.{rests}','use Rattle.turn_lines.proofs.Given.{Going, going-first, going-next, going-nearer, going-over}'],
   first=dict(fn='next_turn',al='next-turn',Name='NextTurn',mod='Rattle.turns.proofs.next_turn',key='#turns·next-turn',refs=['piece'],args=['opened','piece','0'],lits=['0'],fact='r ≡ turnOf opened (piece .now) 0'),
   call=dict(fn='give',al='give',Name='Give',mod='Rattle.giving.proofs.give',key='#giving·give'),
   # in the record: its own lists and the parameters'; in the walk: the state's

@@ -1,5 +1,5 @@
-# What the descriptions of own_readings share.
-SITE='Rattle.site.proofs.'; OWN='Rattle.own_readings.proofs.'; SP='Rattle.own_readings.specs.'
+# What the descriptions of own_readings, own_line and own_close share. BELOW: what own_readings has, as another crate names it.
+SITE='Rattle.site.proofs.'; OWN='Rattle.own_readings.proofs.'; SP='Rattle.own_readings.specs.'; BELOW='Rattle.own_readings.proofs.'; BELOW_SP='Rattle.own_readings.specs.'
 def struct(name,mod,decl): return dict(name=name,mod=mod+name,decl=name,**{'decl-mod':decl+name})
 T=struct('Record',SITE,'Rattle.site.specs.declared.'); O=struct('Opened',SITE,'Rattle.site.specs.declared.')
 R=struct('Reading','Rattle.readings.proofs.','Rattle.readings.specs.declared.'); AR=dict(name='[Reading;600]',array='R',n=600,decl='List Reading')

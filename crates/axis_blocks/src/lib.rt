@@ -22,7 +22,7 @@ fn is_placed(axis: Years, position: usize) -> bool
     ensures { λ r. ⌜ r ≡ placedAt axis position ⌝ }
 {
     let year = axis.first + (position / PLACES) as u64;
-    if !calendar::spans::is_among(axis, year) {
+    if !spans::is_among(axis, year) {
         return false;
     }
     calendar::places::has_date(year, position % PLACES)

@@ -1,6 +1,4 @@
 // The refusals 4 to 12 of X and D: a date of an axis year, and a number.
-use calendar::spans::axis;
-use calendar::spans::is_among;
 use checks::Checks;
 use checks::first;
 use checks::is_late;
@@ -10,6 +8,8 @@ use date_keys::places::lacks_date;
 use date_keys::places::position_at;
 use intake::Fields;
 use intake::both;
+use spans::axis;
+use spans::is_among;
 ghost use mathlib.Core.Path.{_≡_};
 ghost use Rattle.calendar.specs.Spans.{historyYears};
 ghost use Rattle.meaning.specs.Line.{X, D};
@@ -59,7 +59,7 @@ pub fn judge_reading(
 ) -> ReadingJudged
     ensures { λ r. ⌜ OfTag X told (λ l. r ≡ readingJudged (refusal (beforeReading last (historyYears al filiere) latest previous readings) l) (historyYears al filiere) l) ⌝ }
 {
-    let r = intake::read_reading(told);
+    let r = axis_fields::read_reading(told);
     let misplaced = is_late(last, 3);
     let low = r.index <= 1_000_000_000_000;
     let inside = both(is_among(axis(al, filiere), r.year), low);
@@ -90,7 +90,7 @@ pub fn judge_reading(
 pub fn judge_daily(told: Fields, last: u64, al: u64, filiere: u64, latest: u64) -> DailyJudged
     ensures { λ r. ⌜ OfTag D told (λ l. r ≡ dailyJudged (refusal (beforeRising last (historyYears al filiere) latest) l) (historyYears al filiere) l) ⌝ }
 {
-    let r = intake::read_daily(told);
+    let r = axis_fields::read_daily(told);
     let misplaced = is_late(last, 4);
     let inside = both(is_among(axis(al, filiere), r.year), r.sum <= 3_145_680);
     let key = key_of(r.year, r.month, r.day);

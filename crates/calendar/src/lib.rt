@@ -1,7 +1,6 @@
-// Dates, their places in the rows of a year, and the years of a site's history and axis.
+// Dates and their places in the rows of a year.
 pub mod dates; // leap years, months and dates
 pub mod places; // date places and winter places
-pub mod spans; // history and axis years, and positions on the axis
 
 // Some years in a row: the first, and how many.
 pub struct Years {

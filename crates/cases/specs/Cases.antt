@@ -6,8 +6,7 @@ use lib.Dec.{eqb, ltb}
 use lib.ListN.{getD}
 use Rattle.lists.specs.Lists.{any, tab}
 use Rattle.meaning.specs.Filing.{Meter, noMeter, curveMeter, indexMeter}
-use Rattle.meaning.specs.Cases.{caseM, case1, case2, case3, case4, caseP, case5, case6, Mark, mark, curveCase, indexCase, caseBy}
-use Rattle.meaning.specs.Cases.{Case as DocumentCase}
+use Rattle.meaning.specs.Cases.{caseM, case1, case2, case3, case4, caseP, case5, case6, Mark, mark, curveCase, indexCase, caseBy, Case as DocumentCase}
 use Rattle.cases.specs.declared.Case.{Case}
 unfoldable pub use Rattle.years.specs.Years.{isSet}
 use Rattle.cases.specs.declared.Case.the-variants.{M, T1, T2, T3, T4, P, I5, I6}

@@ -16,8 +16,7 @@ use Rattle.meaning.specs.File.{isIndexMeter}
 use Rattle.meaning.specs.Record.{barredBy}
 use Rattle.meaning.proofs.Passed.{passed}
 use Rattle.checks.specs.Before.{Known}
-use Rattle.checks.specs.Order.{numberBy, asked, firstNumber, isLate}
-use Rattle.checks.specs.Order.{whereTaken}
+use Rattle.checks.specs.Order.{numberBy, asked, firstNumber, isLate, whereTaken}
 use Rattle.checks.specs.declared.Checks.{Checks}
 
 -- ---- the checks' own number

@@ -6,8 +6,8 @@ use lib.Dec.{eqb}
 use lib.ListN.{length}
 use Rattle.meaning.specs.Blocks.{World}
 use Rattle.meaning.specs.Record.{Rec, recFits, contentsFit}
-use Rattle.taking.specs.declared.Progress.{Progress}
-use Rattle.taking.specs.Views.{recOf}
+use Rattle.steps.specs.declared.Progress.{Progress}
+use Rattle.steps.specs.Views.{recOf}
 use Rattle.early.specs.Stops.{lengthsFit}
 
 -- 1, by the lengths of the readings and the curve as they are lent, and the lists with the readings that columns hold

@@ -1,6 +1,4 @@
 // By number, and by what the record and the blocks hold.
-use calendar::spans::axis;
-use calendar::spans::history;
 use contents::contents_fit;
 use early::given;
 use early::open_stop;
@@ -8,12 +6,14 @@ use early::record_fits;
 use early::sizes_fit;
 use intake::both;
 use readings::Columns;
-use taking::Progress;
+use spans::axis;
+use spans::history;
+use steps::Progress;
 ghost use mathlib.Core.Path.{_≡_};
 ghost use mathlib.Core.List.{[]};
 ghost use Prim.Native.Nat.{_≤_};
 ghost use Rattle.readings.specs.Columns.{worldIn};
-ghost use Rattle.taking.specs.Views.{recOf};
+ghost use Rattle.steps.specs.Views.{recOf};
 ghost use Rattle.close_stops.specs.Stops.{FoundFit, allFit, closeStop};
 
 // 1 before 13 before 14: E was not taken. 0 for none.

@@ -21,8 +21,8 @@ use Rattle.meaning.specs.Record.{Rec, inState, isTaken, siteOfRec, historyOfSit
 use Rattle.meaning.specs.Calls.{refused, reports, out, withCurve, closed, closeOf}
 use Rattle.demands.proofs.Bound.Counted.{some-point}
 use Rattle.readings.specs.Columns.{Columned}
-use Rattle.closing.specs.declared.Closing.{Closing}
-use Rattle.closing.specs.Rows.{refusedBy}
+use Rattle.report.specs.declared.Closing.{Closing}
+use Rattle.report.specs.Rows.{refusedBy}
 use Rattle.closing.specs.Closes.{FileFits, Handed, handsBack, reportShown, handedBy, closingMeant}
 use Rattle.closing.proofs.Held.{site-words}
 use Rattle.closing.proofs.Years.{YearsReported, years-reported}

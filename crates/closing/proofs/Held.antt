@@ -32,8 +32,7 @@ use Rattle.intervals.proofs.Filed.{columns-rise, columns-count, columns-kinds, 
 use Rattle.intervals.proofs.Valid.{index-valid-held}
 use Rattle.intervals.proofs.Totals.{profiled-year}
 use Rattle.intervals.proofs.Bounds.{energies-most, totals-most}
-use Rattle.cases.specs.Cases.{meantCase, caseOfCode, isCurve, caseCodes}
-use Rattle.cases.specs.Cases.{isSet as isMark}
+use Rattle.cases.specs.Cases.{meantCase, caseOfCode, isCurve, caseCodes, isSet as isMark}
 use Rattle.points.specs.Sources.{positionIn, bit}
 use Rattle.points.specs.Fits.{isPoint, RateFits, RatesFit}
 use Rattle.curve.specs.Places.{basisOf}

@@ -1,4 +1,3 @@
-pub mod Copying
 pub mod Held
 pub mod Stopped
 pub mod Shown

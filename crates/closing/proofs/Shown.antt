@@ -27,10 +27,10 @@ use Rattle.curve.specs.declared.Filling.{Filling}
 use Rattle.curve.specs.Places.{held, basisOf, fillingOf}
 use Rattle.curve.proofs.Filings.{map-range}
 use Rattle.curve.proofs.Close.{counted-is, ncc-is, present-is}
-use Rattle.closing.specs.declared.Year.{Year}
+use Rattle.report.specs.declared.Year.{Year}
 use Rattle.marks.specs.Marks.{byHistory, curveMarks, indexMarks}
-use Rattle.closing.specs.Rows.{yearRow, noYear, rowIn, rowsIn, reportedBy}
-use Rattle.closing.specs.Closes.{FileFits, yearShown, yearsShown, reportShown}
+use Rattle.report.specs.Rows.{yearRow, noYear, rowIn, rowsIn, reportedBy, yearShown, yearsShown}
+use Rattle.closing.specs.Closes.{FileFits, reportShown}
 use Rattle.closing.proofs.Held.{cases, means}
 
 -- the years of a report, by number

@@ -16,8 +16,8 @@ use Rattle.intervals.specs.Days.{totalsOf}
 use Rattle.lacks.proofs.Lacking.{partial-held, lacking-held, zero-held}
 use Rattle.cases.specs.Cases.{isCurve, caseCodes}
 use Rattle.marks.specs.Marks.{curveMarks, indexMarks, defaultMarks}
-use Rattle.marks.specs.Stops.{firstStop, stopNumber}
-use Rattle.closing.specs.Rows.{refusedBy}
+use Rattle.state_stops.specs.Stops.{firstStop, stopNumber}
+use Rattle.report.specs.Rows.{refusedBy}
 use Rattle.closing.specs.Closes.{FileFits, handsBack, reportShown, handedBy, closingMeant}
 use Rattle.closing.proofs.Held.{rise, valid-set, default-set}
 

@@ -22,10 +22,10 @@ use Rattle.curve.specs.Places.{held, basisOf, fillingOf, curveIn}
 use Rattle.curve.specs.Fits.{ListsFit, Filled}
 use Rattle.curve.proofs.Close.{exceeds-is, counted-is, curve-is}
 use Rattle.marks.specs.declared.Marks.{Marks}
-use Rattle.closing.specs.declared.Closing.{Closing}
+use Rattle.report.specs.declared.Closing.{Closing}
 use Rattle.marks.specs.Marks.{marksBy, marksHeld, curveMarks, indexMarks, defaultMarks}
-use Rattle.marks.specs.Stops.{stopNumber}
-use Rattle.closing.specs.Rows.{refusedBy, reportedBy}
+use Rattle.state_stops.specs.Stops.{stopNumber}
+use Rattle.report.specs.Rows.{refusedBy, reportedBy}
 use Rattle.closing.specs.Closes.{FileFits, handsBack, closingMeant}
 use Rattle.closing.proofs.Held.{known, short, oldest, lists-fit, means}
 use Rattle.closing.proofs.Stopped.{stopped, exceeded, reports}

@@ -13,9 +13,8 @@ use Rattle.calendar.specs.Spans.{isKnown, historyYears}
 use Rattle.calendar.proofs.Laws.{history-bounds, history-short}
 use Rattle.meaning.specs.Filing.{Filing, historyOf, yearsIn, historyList}
 use Rattle.meaning.specs.Level.{YearReport, yearReport, reportOf}
-use Rattle.closing.specs.declared.Year.{Year}
-use Rattle.closing.specs.Rows.{noYear}
-use Rattle.closing.specs.Closes.{yearShown, yearsShown}
+use Rattle.report.specs.declared.Year.{Year}
+use Rattle.report.specs.Rows.{noYear, yearShown, yearsShown}
 
 -- a row with a year
 abbrev pub hasYear : Year → Bool

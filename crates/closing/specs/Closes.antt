@@ -1,23 +1,19 @@
 -- What the close of a filing hands back, and what 1 and 14 have told before (document 01, Calls and both sections on stops).
 use mathlib.Core.Bool.{true, not}
-use mathlib.Core.List.{List, map}
+use mathlib.Core.List.{List}
 use mathlib.Core.Option.{Option, some, none}
 use Prim.Native.Nat.{ℕ, _-_, _≤_}
 use lib.Dec.{T}
-use lib.ListN.{getD}
-use Rattle.lists.specs.Lists.{tab}
 use Rattle.calendar.specs.Spans.{axisYears}
 use Rattle.meaning.specs.Filing.{Site, Filing}
 use Rattle.meaning.specs.Refusals.{isTooSoon, mostReadings}
-use Rattle.meaning.specs.Level.{YearReport, Report, reportOf, curveOf}
+use Rattle.meaning.specs.Level.{Report, reportOf, curveOf}
 use Rattle.meaning.specs.Closing.{Lack, lackNumber, closingRefusal}
 use Rattle.meaning.specs.Blocks.{World, sizesFit, readingsOf}
 use Rattle.meaning.specs.Record.{Tallies, historyOfSite, siteFits, talliesFit, pointsFit, slotsFit, dailyFits, readingsFit}
-use Rattle.meaning.specs.Text.{letterOfCase}
 use Rattle.readings.specs.Columns.{Columned}
-use Rattle.closing.specs.declared.Year.{Year}
-use Rattle.closing.specs.declared.Closing.{Closing}
-use Rattle.closing.specs.Rows.{yearRow, noYear, closing, refusedBy}
+use Rattle.report.specs.declared.Closing.{Closing}
+use Rattle.report.specs.Rows.{closing, refusedBy, yearsShown}
 
 -- ---- 1 of a file whose S was taken: site, number of readings and tallies are in their ranges, and the blocks hold what lines can give
 pub record FileFits (t : Site) (n : ℕ) (k : Tallies) (w : World) (ps xs ks : List ℕ) : Type 0 where
@@ -42,13 +38,6 @@ pub record Handed : Type 0 where
 
 abbrev pub handsBack : Closing → List ℕ → Handed
 handsBack r c = record { closing = r; curve = c }
-
-unfoldable pub yearShown : YearReport → Year
-yearShown y = yearRow (y .year) (letterOfCase (y .case)) (y .present)
-
--- ten years, empty where the file has no such year
-unfoldable pub yearsShown : List YearReport → List Year
-yearsShown ys = tab 10 0 (λ k. getD (map yearShown ys) k noYear)
 
 unfoldable pub reportShown : Report → Closing
 reportShown r = closing 0 (r .level) (r .points) (yearsShown (r .years))

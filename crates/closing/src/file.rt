@@ -11,12 +11,11 @@ ghost use Rattle.points.specs.Sources.{casFrom};
 ghost use Rattle.curve.specs.Places.{held, basisOf};
 ghost use Rattle.curve.specs.Fits.{SiteFits, ListsFit, Filled};
 ghost use Rattle.closing.specs.Closes.{FileFits, handsBack, closingMeant};
-use crate::Closing;
-use crate::report;
 use curve::Filling;
 use intake::Site;
 use marks::Marks;
 use ranges::Tallies;
+use report::Closing;
 
 const MISSING: u64 = 18446744073709551615;
 
@@ -74,7 +73,7 @@ pub fn close_file<'a>(
     requires { ⌜ FileFits (siteView site) n (talliesView tallies) (worldIn (now near) (now far) (now slots) (now daily) (now positions) (now indexes) (now kinds) (now curve)) (now positions) (now indexes) (now kinds) ⌝ }
     ensures { λ r. ⌜ handsBack r (now (curve .exit)) ≡ closingMeant (filingHeld (siteView site) n (talliesView tallies) true (worldIn (now (near .entry)) (now (far .entry)) (now (slots .entry)) (now (daily .entry)) (now (positions .entry)) (now (indexes .entry)) (now (kinds .entry)) (now (curve .entry)))) (now (curve .entry)) ⌝ }
 {
-    let h = calendar::spans::history(site.al, site.filiere);
+    let h = spans::history(site.al, site.filiere);
     let size = n as usize;
     let meter = site.meter;
     let breaks = tallies.breaks;
@@ -83,7 +82,7 @@ pub fn close_file<'a>(
     let mut e = [0u64; 4392];
     let mut totals = [0u64; 4392];
     intervals::days::spread(positions, indexes, daily, size, &mut e, &mut totals);
-    let number = marks::stop_number(h, tallies, m, positions, size, &totals);
+    let number = state_stops::stop_number(h, tallies, m, positions, size, &totals);
     if number != 0 {
         return report::refused(number);
     }

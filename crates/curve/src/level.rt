@@ -10,5 +10,5 @@ pub fn ncc(al: u64, filiere: u64, sum: u64, n: u64) -> u64
     ensures { λ r. ⌜ r ≡ nccOf al filiere sum n ⌝ }
 {
     let c = note::coefficients::coefficient(al, filiere);
-    rounding::level(c, Power(sum), n)
+    levels::level(c, Power(sum), n)
 }

@@ -14,7 +14,6 @@ use crate::Filling;
 use own_points::Basis;
 use places::Marks;
 use points::Year;
-use years::factors;
 
 // Each year in turn, from a curve whose entries are all missing. A year's points do not stop where one is refusal 18: the curve is then not used.
 fn all_years<'a>(
@@ -59,8 +58,8 @@ fn basis_of(al: u64, filiere: u64, ps: u64) -> Basis
     requires { ⌜ SiteFits al filiere ps ⌝ }
     ensures { λ r. ⌜ BasisIs al filiere ps r ⌝ }
 {
-    let h = calendar::spans::history(al, filiere);
-    let cas = factors::cas_from(h.first, filiere);
+    let h = spans::history(al, filiere);
+    let cas = ca_sums::cas_from(h.first, filiere);
     let n = h.count as usize;
     Basis {
         al,
@@ -68,7 +67,7 @@ fn basis_of(al: u64, filiere: u64, ps: u64) -> Basis
         count: h.count,
         ps,
         theta: note::coefficients::theta(filiere),
-        cas: factors::cas_sum(&cas, n),
+        cas: ca_sums::cas_sum(&cas, n),
     }
 }
 
@@ -82,7 +81,7 @@ fn marks_of(curves: &[u64; 10], indexes: &[u64; 10], first: u64, filiere: u64) -
     Marks {
         curves: c,
         indexes: i,
-        cas: factors::cas_from(first, filiere),
+        cas: ca_sums::cas_from(first, filiere),
     }
 }
 

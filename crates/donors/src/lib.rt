@@ -142,7 +142,7 @@ pub fn rebuilt(ca: u64, d: Donors) -> Filled
             if cas == 0 {
                 return Filled::Missing;
             }
-            filled_by(rounding::rebuilt(ca, Power(points), cas))
+            filled_by(rebuilding::rebuilt(ca, Power(points), cas))
         }
     }
 }

@@ -3,11 +3,11 @@ use intake::both;
 use ranges::lasts_fit;
 use ranges::site_fits;
 use ranges::tallies_fit;
-use taking::Progress;
+use steps::Progress;
 ghost use mathlib.Core.Path.{_≡_};
 ghost use mathlib.Core.Bool.{cond};
 ghost use Rattle.meaning.specs.Record.{recFits};
-ghost use Rattle.taking.specs.Views.{recOf};
+ghost use Rattle.steps.specs.Views.{recOf};
 
 // A number that S gave; 0 until S is taken.
 pub fn given(taken: bool, n: u64) -> u64

@@ -20,18 +20,18 @@ use Rattle.readings.specs.Columns.{readingIn, readingsIn, world, worldIn}
 use Rattle.readings.specs.Lent.{EachColumns}
 use Rattle.readings.proofs.Laws.{seen-length, columns-all}
 use Rattle.readings.proofs.Columned.{columned, seen-in}
-use Rattle.taking.specs.declared.Progress.{Progress}
-use Rattle.taking.specs.Views.{recOf}
-use Rattle.closing.specs.declared.Closing.{Closing}
+use Rattle.steps.specs.declared.Progress.{Progress}
+use Rattle.steps.specs.Views.{recOf}
+use Rattle.report.specs.declared.Closing.{Closing}
 use Rattle.closing.specs.Closes as file
 use Rattle.closing.specs.Closes.{FileFits, reportShown, closingMeant}
 use Rattle.closing.proofs.Calls.{filing-is, file-fits, close-of, close-unended, close-refuses, close-reports}
 use Rattle.answers.specs.declared.Answer.the-variants.{Refused, Reports}
 use Rattle.early.specs.Stops.{lengthsFit}
 use Rattle.early.proofs.Laws.{six, parts}
-use Rattle.ending.specs.declared.Ended.{Ended}
+use Rattle.ended.specs.declared.Ended.{Ended}
 use Rattle.close_stops.specs.Stops.{allFit, closeStop}
-use Rattle.ending.specs.Ends.{Handed, hands, endsBack, noYears, answerShown, yearsBeside, handed, refusedOf, toldOf}
+use Rattle.ended.specs.Ends.{Handed, hands, endsBack, noYears, answerShown, yearsBeside, handed, refusedOf, toldOf}
 use Rattle.close_stops.proofs.Laws.{within, all-fit, not-stopped}
 
 -- ---- 1, 13 and 14

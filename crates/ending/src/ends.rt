@@ -1,13 +1,13 @@
 // The close.
-use crate::Ended;
-use crate::telling::refuse;
-use crate::telling::stopped_state;
-use crate::telling::tell;
 use close_stops::close_stop;
-use closing::Closing;
 use closing::close_file;
+use ended::Ended;
+use ended::refuse;
+use ended::stopped_state;
+use ended::tell;
 use readings::Columns;
-use taking::Progress;
+use report::Closing;
+use steps::Progress;
 ghost use mathlib.Core.Path.{_≡_};
 ghost use mathlib.Core.Bool.{true};
 ghost use Rattle.intake.specs.Views.{siteView};
@@ -17,9 +17,9 @@ ghost use Rattle.meaning.specs.Calls.{closeOf};
 ghost use Rattle.readings.specs.Readings.{seen};
 ghost use Rattle.readings.specs.Columns.{world, worldIn};
 ghost use Rattle.readings.specs.Lent.{EachColumns};
-ghost use Rattle.taking.specs.Views.{recOf};
+ghost use Rattle.steps.specs.Views.{recOf};
 ghost use Rattle.closing.specs.Closes.{FileFits, handsBack, closingMeant};
-ghost use Rattle.ending.specs.Ends.{endsBack, handed};
+ghost use Rattle.ended.specs.Ends.{endsBack, handed};
 
 // The close of the file, by the record's progress and the columns.
 fn close_held<'a>(

@@ -1,7 +1,6 @@
 // CA, theta and C by filière.
 ghost use mathlib.Core.Path.{_≡_};
-ghost use Rattle.factors.specs.Coefficients.{columnOf, caOf, coefficientC};
-ghost use Rattle.factors.specs.Coefficients.{theta as Coefficients·theta};
+ghost use Rattle.factors.specs.Coefficients.{columnOf, caOf, coefficientC, theta as Coefficients·theta};
 use crate::tables::CA;
 use crate::tables::COEFFICIENTS;
 use crate::tables::COLUMNS;

@@ -1,12 +1,12 @@
 // A piece of the input, of any size.
 use crate::lines::feed_lines;
+use answered::is_answered;
 use begun::join;
-use own_readings::line_own;
+use own_line::line_own;
 use readings::Reading;
 use runs::Fed;
 use runs::Run;
 use runs::opened_of;
-use turns::is_answered;
 ghost use mathlib.Core.Path.{_≡_};
 ghost use mathlib.Core.Bool.{false};
 ghost use Rattle.answers.specs.Views.{answerView};

@@ -1,4 +1,5 @@
 // The lines of a piece that none is begun before.
+use answered::is_answered;
 use begun::appended;
 use begun::least;
 use own_lines::KeptTurn;
@@ -7,7 +8,6 @@ use readings::Reading;
 use runs::Fed;
 use runs::Run;
 use site::Opened;
-use turns::is_answered;
 ghost use mathlib.Core.Path.{_≡_};
 ghost use mathlib.Core.Bool.{cond};
 ghost use mathlib.Core.List.{[]};

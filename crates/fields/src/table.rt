@@ -30,7 +30,7 @@ pub fn read_fields(line: &[u8]) -> Fields
     let mut rest = line;
     let mut k = 0;
     while k < 24 {
-        let n = text::number(rest);
+        let n = field_numbers::number(rest);
         if n.strange {
             return illegible();
         }
@@ -48,7 +48,7 @@ pub fn read_fields(line: &[u8]) -> Fields
         let a = text::past(rest.len(), e);
         rest = &rest[a..];
     }
-    if text::some_strange(rest) {
+    if field_numbers::some_strange(rest) {
         return illegible();
     }
     Fields {

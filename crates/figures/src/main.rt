@@ -2,7 +2,6 @@
 // The file stdout beside this folder is what tools/figures_from_note.py reads from the note's own text.
 use calendar::Day;
 use calendar::places;
-use calendar::spans;
 use libc::STDOUT_FILENO;
 use note::coefficients;
 use note::peaks;

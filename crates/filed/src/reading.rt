@@ -1,4 +1,5 @@
 // Reading a descriptor to the run's answer or the input's end.
+use answered::is_answered;
 use ends::End;
 use ends::Filed;
 use ends::after;
@@ -10,7 +11,6 @@ use runs::fresh_readings;
 use runs::start;
 use sheet::finish;
 use site::Record;
-use turns::is_answered;
 ghost use mathlib.Core.Path.{_≡_};
 ghost use Rattle.meaning.specs.Record.{neverOpened};
 ghost use Rattle.pieces.specs.Run.{started, fed};

@@ -1,12 +1,12 @@
 // A line of a piece, given to a record.
 use readings::Reading;
+use turn_lines::line_of;
+use turn_lines::record_of;
+use turn_lines::turn_after;
 use turns::Turn;
-use turns::line_of;
-use turns::record_of;
-use turns::turn_after;
 ghost use Rattle.readings.specs.Readings.{seen};
 ghost use Rattle.readings.specs.Columns.{world};
-ghost use Rattle.turns.specs.Gives.{Gives};
+ghost use Rattle.turn_lines.specs.Gives.{Gives};
 
 // The turn's line is given, and the next one looked for.
 pub fn give(

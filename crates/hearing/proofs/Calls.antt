@@ -20,17 +20,16 @@ use Rattle.readings.specs.Columns.{world}
 use Rattle.readings.specs.Lent.{EachLent}
 use Rattle.readings.proofs.Laws.{seen-put, seen-length, put-past, kind-lettered}
 use Rattle.answers.specs.declared.Answer.the-variants.{Took, Refused}
-use Rattle.answers.specs.Views.{answerView}
-use Rattle.answers.specs.Views.{answerOf as answered}
-use Rattle.taking.specs.declared.Progress.{Progress}
-use Rattle.taking.specs.declared.Step.{Step}
-use Rattle.taking.specs.Views.{recOf, openRec, stepView}
-use Rattle.taking.specs.Steps.{Stepped, lineBlocks, LineSizes, stepOf, answerOf, heard}
-use Rattle.taking.proofs.Calls.{on-axis, kind-told, line-heard}
+use Rattle.answers.specs.Views.{answerView, answerOf as answered}
+use Rattle.steps.specs.declared.Progress.{Progress}
+use Rattle.steps.specs.declared.Step.{Step}
+use Rattle.steps.specs.Views.{recOf, openRec, stepView}
+use Rattle.steps.specs.Steps.{Stepped, lineBlocks, LineSizes, stepOf, answerOf, heard}
+use Rattle.steps.proofs.Calls.{on-axis, kind-told, line-heard}
 use Rattle.early.specs.Stops.{lengthsFit, earlyStop}
 use Rattle.early.proofs.Laws.{six, parts, not-early}
-use Rattle.hearing.specs.declared.Heard.{Heard}
-use Rattle.hearing.specs.Heard.{hearsBack, unheardOf, heardOf}
+use Rattle.heard.specs.declared.Heard.{Heard}
+use Rattle.heard.specs.Heard.{hearsBack, unheardOf, heardOf}
 
 -- the count is at most 9999
 few-lines : (s : Rec) → recFits s ≡ true → s .count ≤ 9999

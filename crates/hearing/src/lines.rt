@@ -1,18 +1,18 @@
 // One line of a file.
-use crate::Heard;
-use crate::telling::heard;
-use crate::telling::unheard;
 use early::line_stop;
-use taking::Progress;
+use heard::Heard;
+use heard::counted;
+use heard::unheard;
+use steps::Progress;
 use taking::take_line;
 ghost use mathlib.Core.Path.{_≡_};
 ghost use lib.ListN.{set};
 ghost use Rattle.meaning.specs.Calls.{lineOf};
-ghost use Rattle.taking.specs.Views.{recOf};
+ghost use Rattle.steps.specs.Views.{recOf};
 ghost use Rattle.readings.specs.Readings.{seen};
 ghost use Rattle.readings.specs.Columns.{world};
 ghost use Rattle.readings.specs.Lent.{EachLent};
-ghost use Rattle.hearing.specs.Heard.{hearsBack};
+ghost use Rattle.heard.specs.Heard.{hearsBack};
 
 // Of a record by its parts, and the lengths of the lent readings and curve. 1 and 13 come first, and leave the record.
 pub fn hear_line(
@@ -45,5 +45,5 @@ pub fn hear_line(
     }
     let n = progress.readings as usize;
     let step = take_line(progress, count, line, near, far, slots, daily);
-    heard(count, step, n, readings)
+    counted(count, step, n, readings)
 }

@@ -2,24 +2,14 @@
 //
 // Each reader takes the fields of any line. It says whether every field after the tag is in its form (5), and hands out each number up to 10^18, which
 // is above every range that a field has, so that 6 and 7 can be judged on the numbers alone.
-mod dated; // X and D
 mod parts; // numbers, and the date past the tag
-mod site_line; // S
-mod years; // B, R and E
 
-pub use dated::read_daily;
-pub use dated::read_reading;
 pub use fields::Fields;
 pub use fields::read_fields;
 pub use parts::both;
 pub use parts::is_dated;
 pub use parts::is_number;
-pub use site_line::is_too_soon;
-pub use site_line::read_site;
 pub use tags::known_tag;
-pub use years::read_count;
-pub use years::read_rate;
-pub use years::read_year;
 
 // T is a curve meter, I an index meter.
 pub enum Meter {

@@ -9,7 +9,7 @@ use intake::Fields;
 use intake::Meter;
 use intake::Site;
 use intake::both;
-use intake::is_too_soon;
+use site_fields::is_too_soon;
 ghost use mathlib.Core.Path.{_≡_};
 ghost use Rattle.meaning.specs.Line.{S, E};
 ghost use Rattle.meaning.specs.Refusals.{refusal};
@@ -19,7 +19,7 @@ ghost use Rattle.judge.specs.Answers.{siteJudged, endJudged};
 pub fn judge_site(told: Fields, last: u64) -> SiteJudged
     ensures { λ r. ⌜ OfTag S told (λ l. r ≡ siteJudged (refusal (beforeFirst last) l) l) ⌝ }
 {
-    let r = intake::read_site(told);
+    let r = site_fields::read_site(told);
     let site = r.site;
     let numbers = both(
         is_within(site.filiere, 1, 11),
@@ -55,7 +55,7 @@ pub fn judge_site(told: Fields, last: u64) -> SiteJudged
 pub fn judge_end(told: Fields, last: u64, count: u64) -> EndJudged
     ensures { λ r. ⌜ OfTag E told (λ l. r ≡ endJudged (refusal (beforeEnd last count) l)) ⌝ }
 {
-    let r = intake::read_count(told);
+    let r = year_fields::read_count(told);
     let misplaced = is_late(last, 8);
     let number = first(Checks {
         misplaced,

@@ -1,8 +1,6 @@
 // B and R: a history year, and its rate.
 use crate::RateJudged;
 use crate::YearJudged;
-use calendar::spans::history;
-use calendar::spans::is_among;
 use checks::Checks;
 use checks::first;
 use checks::is_late;
@@ -10,6 +8,8 @@ use checks::is_reached;
 use checks::is_within;
 use intake::Fields;
 use intake::both;
+use spans::history;
+use spans::is_among;
 ghost use mathlib.Core.Path.{_≡_};
 ghost use Rattle.calendar.specs.Spans.{historyYears};
 ghost use Rattle.meaning.specs.Line.{B, R};
@@ -20,7 +20,7 @@ ghost use Rattle.judge.specs.Answers.{yearJudged, rateJudged};
 pub fn judge_break(told: Fields, last: u64, al: u64, filiere: u64, latest: u64) -> YearJudged
     ensures { λ r. ⌜ OfTag B told (λ l. r ≡ yearJudged (refusal (beforeRising last (historyYears al filiere) latest) l) l) ⌝ }
 {
-    let r = intake::read_year(told);
+    let r = year_fields::read_year(told);
     let misplaced = is_late(last, 6);
     let inside = is_among(history(al, filiere), r.year);
     let reached = is_reached(latest, r.year);
@@ -47,7 +47,7 @@ pub fn judge_break(told: Fields, last: u64, al: u64, filiere: u64, latest: u64) 
 pub fn judge_rate(told: Fields, last: u64, al: u64, filiere: u64, latest: u64) -> RateJudged
     ensures { λ r. ⌜ OfTag R told (λ l. r ≡ rateJudged (refusal (beforeRising last (historyYears al filiere) latest) l) l) ⌝ }
 {
-    let r = intake::read_rate(told);
+    let r = year_fields::read_rate(told);
     let misplaced = is_late(last, 7);
     let inside = both(
         is_among(history(al, filiere), r.year),

@@ -82,7 +82,7 @@ pub fn profiled(energy: u64, profile: u64, total: u64) -> Filled
     if total == 0 {
         return Filled::Is(Power(0));
     }
-    filled_by(rounding::profiled(Energy(energy), profile, total))
+    filled_by(rebuilding::profiled(Energy(energy), profile, total))
 }
 
 // Cases 4 and 6, by the profile value and CA of the year.
@@ -90,5 +90,5 @@ pub fn by_default(b: Basis, profile: u64, ca: u64) -> Filled
     requires { ⌜ BasisFits b × (profile ≤ 65_535) × (ca ≤ 9_999) ⌝ }
     ensures { λ r. ⌜ FilledIs (fromDefault (b .ps) (b .theta) profile ca (b .count) (b .cas)) r ⌝ }
 {
-    filled_by(rounding::by_default(b.ps, b.theta, profile, ca, b.count, b.cas))
+    filled_by(rebuilding::by_default(b.ps, b.theta, profile, ca, b.count, b.cas))
 }

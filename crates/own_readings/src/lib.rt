@@ -1,13 +1,12 @@
-// Opening, line and close for a caller that keeps its readings in an array of its own.
+// Opening for a caller that keeps its readings in an array of its own; `own_line` and `own_close` have the other calls.
 //
-// The record's calls are lent the list of readings, a slice of structs, which the prover's own walk does not cover. Each function here lends its array
-// for one call and hands it back, so that every other caller has plain parameters alone.
-mod calls; // the calls
+// The record's calls are lent the list of readings, a slice of structs, which the prover's own walk does not cover. Each function lends its array for
+// one call and hands it back, so that every other caller has plain parameters alone.
+mod opens; // opening
 mod packing; // what is handed back, with the readings
 
-pub use calls::close_own;
-pub use calls::line_own;
-pub use calls::open_own;
+pub use opens::open_own;
+pub use packing::with_readings;
 use readings::Reading;
 use site::Opened;
 

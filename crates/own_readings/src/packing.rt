@@ -5,7 +5,7 @@ use site::Opened;
 ghost use mathlib.Core.Path.{_≡_};
 ghost use Rattle.own_readings.specs.Own.{keptWith};
 
-pub fn kept(opened: Opened, readings: [Reading; 600]) -> Kept
+pub fn with_readings(opened: Opened, readings: [Reading; 600]) -> Kept
     ensures { λ r. ⌜ r ≡ keptWith opened readings ⌝ }
 {
     Kept { opened, readings }

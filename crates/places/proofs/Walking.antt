@@ -25,8 +25,7 @@ use Rattle.years.specs.Years.{yearsOn, onDay, positionIn}
 use Rattle.points.specs.Sources.{Day, dayWith, sourceIn}
 use Rattle.points.specs.Fits.{RateFits, AtMost, DayFits}
 use Rattle.tallies.specs.declared.Tally.{Tally}
-use Rattle.tallies.specs.Tallies.{tally, tallyOf, entriesOf, plus, entryFilled, tallyFilled, entryIn}
-use Rattle.tallies.specs.Tallies.{place}
+use Rattle.tallies.specs.Tallies.{tally, tallyOf, entriesOf, plus, entryFilled, tallyFilled, entryIn, place}
 use Rattle.places.specs.Places.{Held, dayIn, placesOn, placesIn}
 use Rattle.tallies.specs.Fits.{TallyFits}
 use Rattle.places.specs.Fits.{Entered, HeldFits}

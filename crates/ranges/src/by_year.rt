@@ -1,8 +1,8 @@
 // The numbers by year: P and D dates, breaks and rates.
 use crate::Tallies;
-use calendar::spans::axis;
-use calendar::spans::history;
 use intake::both;
+use spans::axis;
+use spans::history;
 use year_ranges::Tally;
 use year_ranges::each_year;
 ghost use mathlib.Core.Path.{_≡_};

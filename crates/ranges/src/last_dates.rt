@@ -1,8 +1,8 @@
 // The last date or year of each tag.
 use crate::Lasts;
-use calendar::spans::axis;
-use calendar::spans::history;
 use intake::both;
+use spans::axis;
+use spans::history;
 use year_ranges::date_fits;
 use year_ranges::year_fits;
 ghost use mathlib.Core.Path.{_≡_};

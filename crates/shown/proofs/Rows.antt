@@ -14,8 +14,8 @@ use Rattle.digits.proofs.Written.{written-fits, take-written}
 use Rattle.meaning.specs.Text.{tabbed, levelText, yearText}
 use Rattle.printed.specs.Put.{Put}
 use Rattle.printed.proofs.Chains.{tabbed-length, put-length, put-then}
-use Rattle.closing.specs.declared.Year.{Year}
-use Rattle.closing.specs.Rows.{noYear}
+use Rattle.report.specs.declared.Year.{Year}
+use Rattle.report.specs.Rows.{noYear}
 use Rattle.shown.specs.Shown.{rowText, rowsText, Holds}
 
 -- ---- nothing put

@@ -13,9 +13,8 @@ use Rattle.calendar.proofs.Laws.{history-bounds, history-short, has-history, no
 use Rattle.meaning.specs.Filing.{Filing, historyOf, yearsIn, historyList}
 use Rattle.meaning.specs.Text.{yearLine}
 use Rattle.meaning.specs.Level.{YearReport, yearReport, Report, reportOf}
-use Rattle.closing.specs.declared.Year.{Year}
-use Rattle.closing.specs.Rows.{noYear}
-use Rattle.closing.specs.Closes.{yearShown, yearsShown}
+use Rattle.report.specs.declared.Year.{Year}
+use Rattle.report.specs.Rows.{noYear, yearShown, yearsShown}
 use Rattle.shown.specs.Shown.{rowText, rowsText}
 use Rattle.shown.proofs.Rows.{row-none, row-some}
 

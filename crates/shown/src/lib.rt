@@ -1,9 +1,9 @@
 // The text of a sheet: at most 86 bytes of its N line and 46 of each Y line.
 use answers::Answer;
-use closing::Year;
 use printed::put_level;
 use printed::put_refusal;
 use printed::put_year;
+use report::Year;
 ghost use Prim.Native.Nat.{_+_, _≤_};
 ghost use lib.ListN.{length};
 ghost use Rattle.printed.specs.Put.{Put};

@@ -4,7 +4,7 @@ use intake::Meter;
 use intake::Site;
 use ranges::Lasts;
 use ranges::Tallies;
-use taking::Progress;
+use steps::Progress;
 ghost use mathlib.Core.Path.{_≡_};
 ghost use Rattle.meaning.specs.Record.{emptyRec, neverOpened};
 ghost use Rattle.site.specs.Views.{view};

@@ -2,7 +2,7 @@
 use intake::Meter;
 use intake::Site;
 use intake::both;
-use intake::is_too_soon;
+use site_fields::is_too_soon;
 ghost use mathlib.Core.Path.{_≡_};
 ghost use Rattle.meaning.specs.Record.{meterFits};
 ghost use Rattle.intake.specs.Views.{meterView, siteView};

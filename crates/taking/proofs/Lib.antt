@@ -1,9 +1,1 @@
-pub mod Steps
-pub mod Rows
-pub mod Taken
-pub mod Judging
-pub mod Codes
-pub mod Changed
-pub mod Dated
 pub mod Dispatch
-pub mod Calls

@@ -1,22 +1,22 @@
 // One line of a file.
-use crate::Progress;
-use crate::Step;
-use crate::answers::answer;
-use crate::plain::break_line;
-use crate::plain::end_line;
-use crate::plain::rate_line;
-use crate::plain::site_line;
-use crate::reading::reading_line;
-use crate::stored::daily_line;
-use crate::stored::points_line;
-use crate::stored::profiles_line;
+use dated_lines::daily_line;
+use dated_lines::points_line;
+use dated_lines::profiles_line;
+use dated_lines::reading_line;
 use intake::known_tag;
 use intake::read_fields;
+use plain_lines::break_line;
+use plain_lines::end_line;
+use plain_lines::rate_line;
+use plain_lines::site_line;
+use steps::Progress;
+use steps::Step;
+use steps::answer;
 ghost use mathlib.Core.Path.{_≡_};
 ghost use mathlib.Core.Bool.{true};
 ghost use Rattle.meaning.specs.Record.{recFits};
-ghost use Rattle.taking.specs.Views.{openRec, stepView};
-ghost use Rattle.taking.specs.Steps.{stepOf, lineBlocks, LineSizes};
+ghost use Rattle.steps.specs.Views.{openRec, stepView};
+ghost use Rattle.steps.specs.Steps.{stepOf, lineBlocks, LineSizes};
 
 // 2 and 3, then by tag. Each tag is lent the blocks that it writes, and no other.
 pub fn take_line(

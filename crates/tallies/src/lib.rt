@@ -3,8 +3,7 @@ ghost use mathlib.Core.Path.{_≡_};
 ghost use Prim.Native.Nat.{_+_, _≤_, _<_, _*_};
 ghost use Rattle.own_points.specs.Fits.{FilledFits};
 ghost use Rattle.points.specs.Fits.{RateFits};
-ghost use Rattle.tallies.specs.Tallies.{entryFilled, tallyFilled};
-ghost use Rattle.tallies.specs.Tallies.{plus as Tallies·plus};
+ghost use Rattle.tallies.specs.Tallies.{entryFilled, tallyFilled, plus as Tallies·plus};
 use own_points::Filled;
 
 // Of some places: whether 18 holds, the sum in mW of the points that are there, and how many there are.
@@ -34,7 +33,7 @@ pub fn entry_of(f: Filled, rate: u64) -> u64
             if rate == 0 {
                 return p.0;
             }
-            let q = rounding::rated(p, rate);
+            let q = levels::rated(p, rate);
             q.0
         }
     }

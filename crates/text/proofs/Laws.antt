@@ -18,7 +18,7 @@ use Rattle.text.specs.Numbers.{isDigit, isNumber, valueOf, most, numbere
 use Rattle.text.specs.declared.Numbered.{Numbered}
 pub use Rattle.numbers.proofs.Laws.{any-here, any-on, any-end, value-snoc, number-snoc, leb-capped, ltb-capped, eqb-capped, of-digit, of-number, of-dash}
 
--- ---- a walk: the first tab, and the tabs
+-- ---- a walk: the first tab
 pub tab-here : (l : List ℕ) (i : ℕ) → i < length l → getD l i 0 ≡ 9 → tabAt (drop i l) ≡ 0
 unfolding tabAt
 tab-here l i h e = rw (drop-cons l i 0 h) (simp (eq-eqb _ _ e))
@@ -30,18 +30,6 @@ tab-on l i h e = rw (drop-cons l i 0 h) (simp (ne-eqb _ _ e, add-one))
 pub tab-end : (l : List ℕ) (i : ℕ) → length l ≤ i → tabAt (drop i l) ≡ 0
 unfolding tabAt
 tab-end l i h = simp (drop-of-length-le l h)
-
-pub tabs-here : (l : List ℕ) (i : ℕ) → i < length l → getD l i 0 ≡ 9 → tabs (drop i l) ≡ tabs (drop (i + 1) l) + 1
-unfolding tabs
-tabs-here l i h e = rw (drop-cons l i 0 h) (simp (eq-eqb _ _ e, add-one))
-
-pub tabs-on : (l : List ℕ) (i : ℕ) → i < length l → (getD l i 0 ≡ 9 → ⊥) → tabs (drop i l) ≡ tabs (drop (i + 1) l)
-unfolding tabs
-tabs-on l i h e = rw (drop-cons l i 0 h) (simp (ne-eqb _ _ e, add-one))
-
-pub tabs-end : (l : List ℕ) (i : ℕ) → length l ≤ i → tabs (drop i l) ≡ 0
-unfolding tabs
-tabs-end l i h = simp (drop-of-length-le l h)
 
 -- ---- the first field and what is past it, by the place of the first tab
 pub tab-le : (l : List ℕ) → tabAt l ≤ length l
@@ -100,9 +88,6 @@ rest-of t a = rw (← length-drop a t) (take-length (drop a t))
 -- what `&t[..e]` holds, and that it is as long as it says
 pub first-of : (t : List ℕ) (e : ℕ) → e ≡ tabAt t → take e t ≡ upTo t
 first-of t e h = rw h (sym (up-take t))
-
-pub first-length : (t : List ℕ) (e : ℕ) → e ≡ tabAt t → e ≡ length (take e t)
-first-length t e h = simp length-take (omega (arith, tab-le t))
 
 -- what `&t[k..]` holds
 pub rest-past : (t : List ℕ) (e k : ℕ) → e ≡ tabAt t → k ≡ min (e + 1) (length t) → take (length t - k) (drop k t) ≡ past t
@@ -176,10 +161,6 @@ pub field-beyond : (l : List ℕ) (n : ℕ) → tabs l < n → fieldAt l n ≡ [
 unfolding fieldAt upTo
 field-beyond l n h = rw (rest-beyond l n h)
 
-pub field-none : (n : ℕ) → fieldAt [] n ≡ []
-unfolding fieldAt upTo
-field-none n = rw (rest-none n)
-
 -- the first field, and the n-th past the first
 pub field-first : (l : List ℕ) → fieldAt l 0 ≡ upTo l
 unfolding fieldAt restAt
@@ -188,16 +169,6 @@ field-first l = refl
 pub field-next : (l : List ℕ) (n : ℕ) → fieldAt l (n + 1) ≡ fieldAt (past l) n
 unfolding fieldAt restAt
 field-next l n = rw (add-one n)
-
--- a walk: the n-th field, k fields having been passed
-pub field-on : (l : List ℕ) (n k : ℕ) → k < n → fieldAt l (n - k) ≡ fieldAt (past l) (n - (k + 1))
-field-on l n k h = let e : n - k ≡ n - (k + 1) + 1 = omega arith in rw e (field-next l (n - (k + 1)))
-
-pub field-out : (l : List ℕ) (n k : ℕ) → k < n → length l ≤ tabAt l → fieldAt l (n - k) ≡ []
-field-out l n k h s = field-on l n k h ∙ rw (past-none l s) (field-none (n - (k + 1)))
-
-pub field-end : (l : List ℕ) (n k : ℕ) → n ≤ k → fieldAt l (n - k) ≡ upTo l
-field-end l n k h = let e : n - k ≡ 0 = omega arith in rw e (field-first l)
 
 -- a field reads as a text where it is that text
 pub of-reads : (f t : List ℕ) → T (reads f t) ↔ (f ≡ t)

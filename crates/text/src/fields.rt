@@ -5,41 +5,10 @@
 //     let e = n.length;
 //     let k = past(t.len(), e);
 //     t = &t[k..];
-use crate::Numbered;
-use crate::bytes::also_strange;
 ghost use mathlib.Core.Path.{_≡_};
 ghost use Prim.Native.Nat.{_+_, min};
 ghost use lib.ListN.{take};
 ghost use Rattle.text.specs.Fields.{reads, edition};
-ghost use Rattle.text.specs.Numbers.{numberedOf};
-
-const TAB: u8 = 9;
-
-// The first field's end, its bytes' legibility, its form as a number and its number, in one walk over its bytes.
-pub fn number(s: &[u8]) -> Numbered
-    ensures { λ r. ⌜ r ≡ numberedOf (now (s .entry)) ⌝ }
-{
-    let mut strange = false;
-    let mut formed = false;
-    let mut value: u64 = 0;
-    let mut i = 0;
-    while i < s.len() {
-        let b = s[i];
-        if b == TAB {
-            break;
-        }
-        strange = also_strange(strange, b);
-        formed = numbers::goes_on(i, formed, value, b);
-        value = numbers::capped(value * 10 + numbers::worth(b));
-        i += 1;
-    }
-    Numbered {
-        length: i,
-        strange,
-        formed,
-        value,
-    }
-}
 
 // The first e bytes of a line, all where there are fewer: its first field, where that has e bytes.
 pub fn field(s: &[u8], e: usize) -> &[u8]

@@ -1,11 +1,8 @@
 // The text of a file's lines: fields parted by tabs, and what a field holds: a fixed text, or as `numbers` has it a number.
-mod bytes; // strange bytes
-mod fields; // fields and the number in one
+mod fields; // the fields of a line
 
-pub use bytes::some_strange;
 pub use fields::field;
 pub use fields::is_edition;
-pub use fields::number;
 pub use fields::past;
 pub use fields::reads;
 

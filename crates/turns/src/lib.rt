@@ -1,13 +1,8 @@
 // The lines of a piece, one after the other: where the next one starts, and where it ends.
-mod answered; // whether a run has its answer
 mod next; // the next line of a piece
 
-pub use answered::is_answered;
 use answers::Answer;
-pub use next::line_of;
 pub use next::next_turn;
-pub use next::record_of;
-pub use next::turn_after;
 use site::Record;
 
 pub struct Turn {

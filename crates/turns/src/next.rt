@@ -1,14 +1,13 @@
 // The next line of a piece.
 use crate::Turn;
-use crate::answered::is_answered;
+use answered::is_answered;
 use begun::end;
 use begun::is_whole;
 use begun::least;
 use site::Opened;
-use site::Record;
 ghost use mathlib.Core.Path.{_≡_};
 ghost use mathlib.Core.Bool.{_&&_, not};
-ghost use Rattle.turns.specs.Turns.{partOf, turnOf};
+ghost use Rattle.turns.specs.Turns.{turnOf};
 
 // A line is given at its 321st byte, if not at its byte 10.
 const MOST: usize = 321;
@@ -42,34 +41,4 @@ pub fn next_turn(opened: Opened, piece: &[u8], at: usize) -> Turn
         past: from + used,
         whole: is_given(is_answered(answer), is_whole(bytes < limit, bytes)),
     }
-}
-
-// A line is a part of its piece.
-fn line_in(piece: &[u8], from: usize, to: usize) -> &[u8]
-    ensures { λ r. ⌜ now r ≡ partOf (now (piece .entry)) from to ⌝ }
-{
-    let e = least(to, piece.len());
-    let a = least(from, e);
-    &piece[a..e]
-}
-
-// The turn's line.
-pub fn line_of(turn: Turn, piece: &[u8]) -> &[u8]
-    ensures { λ r. ⌜ now r ≡ partOf (now (piece .entry)) (turn .from) (turn .to) ⌝ }
-{
-    line_in(piece, turn.from, turn.to)
-}
-
-// The record that it is given to.
-pub fn record_of(turn: Turn) -> Record
-    ensures { λ r. ⌜ r ≡ turn .«record» ⌝ }
-{
-    turn.record
-}
-
-// The next turn, once the line has been given.
-pub fn turn_after(opened: Opened, turn: Turn, piece: &[u8]) -> Turn
-    ensures { λ r. ⌜ r ≡ turnOf opened (now (piece .entry)) (turn .past) ⌝ }
-{
-    next_turn(opened, piece, turn.past)
 }

@@ -1,11 +1,8 @@
 // The lines of 20 values, C and P. Each value is handed out as a code: its number, or DASH for a missing point.
 mod dated; // the fields of a line
-mod ranges; // 6 on the values
 
 pub use dated::read_points;
 pub use dated::read_profiles;
-pub use ranges::points_outside;
-pub use ranges::profiles_outside;
 
 // The code of a missing point. Numbers are handed out up to 10^18, so none is this.
 pub const DASH: u64 = 18_446_744_073_709_551_615;

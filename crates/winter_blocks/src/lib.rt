@@ -23,7 +23,7 @@ fn is_dated(history: Years, first: u64, place: usize) -> bool
     ensures { λ r. ⌜ r ≡ datedAt history first place ⌝ }
 {
     let year = first + (place / ROW) as u64;
-    if !calendar::spans::is_among(history, year) {
+    if !spans::is_among(history, year) {
         return false;
     }
     calendar::places::has_winter_date(year, place % ROW / HALF_HOURS)

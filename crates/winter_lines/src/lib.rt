@@ -1,6 +1,4 @@
 // The refusals 4 to 12 of C and P: a winter date of a history year, and 20 values, handed out as their codes whatever the answer.
-use calendar::spans::history;
-use calendar::spans::is_among;
 use checks::Checks;
 use checks::first;
 use checks::is_late;
@@ -11,8 +9,10 @@ use date_keys::places::winter_at;
 use intake::Fields;
 use intake::Meter;
 use intake::both;
-use values::points_outside;
-use values::profiles_outside;
+use spans::history;
+use spans::is_among;
+use value_ranges::points_outside;
+use value_ranges::profiles_outside;
 use values::read_points;
 use values::read_profiles;
 ghost use mathlib.Core.Path.{_≡_};

@@ -4,7 +4,7 @@ use calendar::Years;
 use calendar::dates::is_winter;
 use calendar::places::day_at;
 use calendar::places::has_date;
-use calendar::spans::is_among;
+use spans::is_among;
 ghost use mathlib.Core.Path.{_≡_};
 ghost use Prim.Native.Nat.{_<_};
 ghost use Rattle.calendar.specs.Dates.{isWinter};

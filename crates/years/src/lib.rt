@@ -1,6 +1,5 @@
-// What the ten years of the longest history have: CA once a file; energies, daily totals and index donors once a day.
+// What the ten years of the longest history have: energies, daily totals and index donors, once a day.
 pub mod days; // on a winter day
-pub mod factors; // CA
 
 // By history year, on one winter day: E and the daily total of the interval around it, and whether the year is an index donor.
 pub struct Day {

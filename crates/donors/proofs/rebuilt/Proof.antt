@@ -9,7 +9,7 @@ use Rattle.donors.proofs.rebuilt.Tie as tie
 use Rattle.donors.proofs.rebuilt.Reads as reads
 use Rattle.donors.proofs.rebuilt.Lts as lts
 use Rattle.own_points.proofs.filled_by.Reads as filled-by-reads
-use Rattle.rounding.proofs.rebuilt.Reads as rebuilt-reads
+use Rattle.rebuilding.proofs.rebuilt.Reads as rebuilt-reads
 
 enum-told : tie.Need-enum-told
 enum-told c = search needs

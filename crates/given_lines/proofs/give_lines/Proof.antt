@@ -48,10 +48,10 @@ use denote.Struct.Laws as LL
 use Rattle.readings.specs.Readings.{seen}
 use Rattle.readings.specs.Columns.{world}
 use Rattle.turns.specs.Turns.{turnOf}
-use Rattle.turns.specs.Gives.{Gives}
+use Rattle.turn_lines.specs.Gives.{Gives}
 use Rattle.given_lines.proofs.Again.{Lent, lends, returns}
 use Rattle.given_lines.proofs.Rests.{rests}
-use Rattle.turns.proofs.Given.{Going, going-first, going-next, going-nearer, going-over}
+use Rattle.turn_lines.proofs.Given.{Going, going-first, going-next, going-nearer, going-over}
 use Rattle.turns.specs.declared.Turn.{Turn}
 use Rattle.site.specs.declared.Opened.{Opened}
 use Rattle.readings.specs.declared.Reading.{Reading}

@@ -43,7 +43,7 @@ use Rattle.readings.specs.Readings.{seen}
 use Rattle.readings.specs.Columns.{world}
 use Rattle.site.specs.Views.{view, handsBack}
 use Rattle.turns.specs.Turns.{partOf, turnOf}
-use Rattle.turns.proofs.Given.{given-by}
+use Rattle.turn_lines.proofs.Given.{given-by}
 use Rattle.turns.specs.declared.Turn.{Turn}
 use Rattle.site.specs.declared.Record.{Record}
 use Rattle.site.specs.declared.Opened.{Opened}
@@ -57,22 +57,22 @@ use Rattle.site.proofs.Opened.Laws as O′
 use Rattle.readings.proofs.Reading as R
 use Rattle.readings.proofs.Reading.Laws as R′
 use Rattle.readings.proofs.Gone.{full, gone}
-use Rattle.turns.proofs.line_of as line-of
-use Rattle.turns.proofs.line_of.Symbol as line-of-def
-use Rattle.turns.proofs.line_of.Symbol.{name as #turns·line-of}
-use Rattle.turns.proofs.line_of.Met as line-of-thm
-use Rattle.turns.proofs.record_of as record-of
-use Rattle.turns.proofs.record_of.Symbol as record-of-def
-use Rattle.turns.proofs.record_of.Symbol.{name as #turns·record-of}
-use Rattle.turns.proofs.record_of.Met as record-of-thm
+use Rattle.turn_lines.proofs.line_of as line-of
+use Rattle.turn_lines.proofs.line_of.Symbol as line-of-def
+use Rattle.turn_lines.proofs.line_of.Symbol.{name as #turn-lines·line-of}
+use Rattle.turn_lines.proofs.line_of.Met as line-of-thm
+use Rattle.turn_lines.proofs.record_of as record-of
+use Rattle.turn_lines.proofs.record_of.Symbol as record-of-def
+use Rattle.turn_lines.proofs.record_of.Symbol.{name as #turn-lines·record-of}
+use Rattle.turn_lines.proofs.record_of.Met as record-of-thm
 use Rattle.site.proofs.Record.line as line
 use Rattle.site.proofs.Record.line.Symbol as line-def
 use Rattle.site.proofs.Record.line.Symbol.{name as #site·Record·line}
 use Rattle.site.proofs.Record.line.Met as line-thm
-use Rattle.turns.proofs.turn_after as turn-after
-use Rattle.turns.proofs.turn_after.Symbol as turn-after-def
-use Rattle.turns.proofs.turn_after.Symbol.{name as #turns·turn-after}
-use Rattle.turns.proofs.turn_after.Met as turn-after-thm
+use Rattle.turn_lines.proofs.turn_after as turn-after
+use Rattle.turn_lines.proofs.turn_after.Symbol as turn-after-def
+use Rattle.turn_lines.proofs.turn_after.Symbol.{name as #turn-lines·turn-after}
+use Rattle.turn_lines.proofs.turn_after.Met as turn-after-thm
 use Rattle.giving.proofs.give.Key.{name as #giving·give}
 use Rattle.giving.proofs.give as f
 use Rattle.giving.proofs.give.Statement as stated
@@ -214,7 +214,7 @@ module _ {M : Type 1} (𝓤 : URA M) (H : Heap 𝓤) (A : Atoms 𝓤) (W : Given
     left w w₁ w₃ r₁ r₃ r r₂ w₂ near′ far′ slots′ daily′ readings′ is₂ e₁ e₃ e e₂ l-near l-far l-slots l-daily l-readings =
         gone ! $ gone ! $ gone ! $ gone ! $ gone ! $ gone ! $ gone ! $ gone ! $ gone ! $ gone ! $ gone ! $ gone ! $ gone ! $ gone ! $ gone ! $ gone ! $ gone ! $ gone ! $ gone ! $ gone ! $ gone ! $ gone ! $ free0 ! $ by ! (exits r₁ r₃ r r₂ w₂ near′ far′ slots′ daily′ readings′ is₂ e₁ e₃ e e₂ l-near l-far l-slots l-daily l-readings)
 
-  module _ (C : Calls 𝓤 H) (Λ : Loops 𝓤 H) (fm : FmC 𝓤 H (W .laws) C) (known-line-of : Triple 𝓤 (C #turns·line-of) (LineOf 𝓤 H A mem run)) (known-record-of : Triple 𝓤 (C #turns·record-of) (RecordOf 𝓤 H A mem run)) (known-line : Triple 𝓤 (C #site·Record·line) (Line 𝓤 H A mem run)) (known-turn-after : Triple 𝓤 (C #turns·turn-after) (TurnAfter 𝓤 H A mem run)) where
+  module _ (C : Calls 𝓤 H) (Λ : Loops 𝓤 H) (fm : FmC 𝓤 H (W .laws) C) (known-line-of : Triple 𝓤 (C #turn-lines·line-of) (LineOf 𝓤 H A mem run)) (known-record-of : Triple 𝓤 (C #turn-lines·record-of) (RecordOf 𝓤 H A mem run)) (known-line : Triple 𝓤 (C #site·Record·line) (Line 𝓤 H A mem run)) (known-turn-after : Triple 𝓤 (C #turn-lines·turn-after) (TurnAfter 𝓤 H A mem run)) where
     module _ (l₀ l₁ l₂ l₃ l₄ l₅ l₆ l₇ l₈ l₉ l₁₀ l₁₁ l₁₂ l₁₃ l₁₄ l₁₅ l₁₆ l₁₇ l₁₈ l₁₉ l₂₀ l₂₁ : ℕ) where
       after-turn-after : (r₁ : RefT (List ℕ)) (w₁ : Val) (is₁ : Is (ShrSlice erased κ₀ u8) r₁ (w₁ ∷ [])) (e₁ : r₁ .now ≡ partOf (piece .now) (turn .from) (turn .to)) (r₃ : Record) (w₃ : Val) (is₃ : Is T.the-row r₃ (w₃ ∷ [])) (e₃ : r₃ ≡ turn .«record») (r : Opened) (w : Val) (near′ : List ℕ) (far′ : List ℕ) (slots′ : List ℕ) (daily′ : List ℕ) (readings′ : List Reading) (is : Is O.the-row r (w ∷ [])) (e : handsBack r (world near′ far′ slots′ daily′ (seen readings′) (curve .now)) ≡ lineOf (view r₃) (r₁ .now) (world (near .now) (far .now) (slots .now) (daily .now) (seen (readings .now)) (curve .now))) (l-near : length near′ ≡ length (near .now)) (l-far : length far′ ≡ length (far .now)) (l-slots : length slots′ ≡ length (slots .now)) (l-daily : length daily′ ≡ length (daily .now)) (l-readings : length readings′ ≡ length (readings .now)) (r₂ : Turn) (w₂ : Val) (is₂ : Is U.the-row r₂ (w₂ ∷ [])) (e₂ : r₂ ≡ turnOf r (piece .now) (turn .past)) → Sq W (‵ (flft κ₀ q₀) ∷ ‵ (flft κ₆ q₆) ∷ ‵ (flft κ₅ q₅) ∷ ‵ (flft κ₄ q₄) ∷ ‵ (flft κ₃ q₃) ∷ ‵ (flft κ₂ q₂) ∷ ‵ (flft κ₁ q₁) ∷ ‵ (finally R.the-row (readings .name) readings′) ∷ ‵ (finally u32 (daily .name) daily′) ∷ ‵ (finally u16 (slots .name) slots′) ∷ ‵ (finally u32 (far .name) far′) ∷ ‵ (finally u32 (near .name) near′) ∷ ‵ Own-piece ∷ ‵ Own-curve ∷ ‵ (fat fullShare (sliceTy (tyRef erased mut (pointee (R.the-row .written)))) l₂₁ 0 v-readings) ∷ ‵ (fdies (sliceTy (tyRef erased mut (pointee (R.the-row .written)))) l₂₁) ∷ ‵ (fat fullShare (tyRef erased mut (pointee (R.the-row .written))) l₂₀ 0 (vptr (readings .ptr .0) (readings .ptr .1))) ∷ ‵ (fdies (tyRef erased mut (pointee (R.the-row .written))) l₂₀) ∷ ‵ (fat fullShare (sliceTy (tyRef erased mut (tyInt w32))) l₁₉ 0 v-daily) ∷ ‵ (fdies (sliceTy (tyRef erased mut (tyInt w32))) l₁₉) ∷ ‵ (fat fullShare (tyRef erased mut (tyInt w32)) l₁₈ 0 (vptr (daily .ptr .0) (daily .ptr .1))) ∷ ‵ (fdies (tyRef erased mut (tyInt w32)) l₁₈) ∷ ‵ (fat fullShare (sliceTy (tyRef erased mut (tyInt w16))) l₁₇ 0 v-slots) ∷ ‵ (fdies (sliceTy (tyRef erased mut (tyInt w16))) l₁₇) ∷ ‵ (fat fullShare (tyRef erased mut (tyInt w16)) l₁₆ 0 (vptr (slots .ptr .0) (slots .ptr .1))) ∷ ‵ (fdies (tyRef erased mut (tyInt w16)) l₁₆) ∷ ‵ (fat fullShare (sliceTy (tyRef erased mut (tyInt w32))) l₁₅ 0 v-far) ∷ ‵ (fdies (sliceTy (tyRef erased mut (tyInt w32))) l₁₅) ∷ ‵ (fat fullShare (tyRef erased mut (tyInt w32)) l₁₄ 0 (vptr (far .ptr .0) (far .ptr .1))) ∷ ‵ (fdies (tyRef erased mut (tyInt w32)) l₁₄) ∷ ‵ (fat fullShare (sliceTy (tyRef erased mut (tyInt w32))) l₁₃ 0 v-near) ∷ ‵ (fdies (sliceTy (tyRef erased mut (tyInt w32))) l₁₃) ∷ ‵ (fat fullShare (tyRef erased mut (tyInt w32)) l₁₂ 0 (vptr (near .ptr .0) (near .ptr .1))) ∷ ‵ (fdies (tyRef erased mut (tyInt w32)) l₁₂) ∷ ‵ (fat fullShare tyO l₁₁ 0 w) ∷ ‵ (fdies tyO l₁₁) ∷ ‵ (fat fullShare tyT l₁₀ 0 w₃) ∷ ‵ (fdies tyT l₁₀) ∷ ‵ (fat fullShare (sliceTy (tyRef erased imm (tyInt w8))) l₉ 0 w₁) ∷ ‵ (fdies (sliceTy (tyRef erased imm (tyInt w8))) l₉) ∷ ‵ (fat fullShare (sliceTy (tyRef (named 6) imm (tyInt w64))) l₈ 0 v-curve) ∷ ‵ (fdies (sliceTy (tyRef (named 6) imm (tyInt w64))) l₈) ∷ ‵ (fat fullShare (sliceTy (tyRef (named 5) mut (pointee (R.the-row .written)))) l₇ 0 v-readings) ∷ ‵ (fdies (sliceTy (tyRef (named 5) mut (pointee (R.the-row .written)))) l₇) ∷ ‵ (fat fullShare (sliceTy (tyRef (named 4) mut (tyInt w32))) l₆ 0 v-daily) ∷ ‵ (fdies (sliceTy (tyRef (named 4) mut (tyInt w32))) l₆) ∷ ‵ (fat fullShare (sliceTy (tyRef (named 3) mut (tyInt w16))) l₅ 0 v-slots) ∷ ‵ (fdies (sliceTy (tyRef (named 3) mut (tyInt w16))) l₅) ∷ ‵ (fat fullShare (sliceTy (tyRef (named 2) mut (tyInt w32))) l₄ 0 v-far) ∷ ‵ (fdies (sliceTy (tyRef (named 2) mut (tyInt w32))) l₄) ∷ ‵ (fat fullShare (sliceTy (tyRef (named 1) mut (tyInt w32))) l₃ 0 v-near) ∷ ‵ (fdies (sliceTy (tyRef (named 1) mut (tyInt w32))) l₃) ∷ ‵ (fat fullShare (sliceTy (tyRef (named 0) imm (tyInt w8))) l₂ 0 v-piece) ∷ ‵ (fdies (sliceTy (tyRef (named 0) imm (tyInt w8))) l₂) ∷ ‵ (fat fullShare tyU l₁ 0 (LL.val U.the-type U′.the-laws turn)) ∷ ‵ (fdies tyU l₁) ∷ ‵ (fat fullShare tyU l₀ 0 w₂) ∷ ‵ (fdies tyU l₀) ∷ []) (runs C Λ (En l₀ l₁ l₂ l₃ l₄ l₅ l₆ l₇ l₈ l₉ l₁₀ l₁₁ l₁₂ l₁₃ l₁₄ l₁₅ l₁₆ l₁₇ l₁₈ l₁₉ l₂₀ l₂₁) pieces.t-15 (atRet (En l₀ l₁ l₂ l₃ l₄ l₅ l₆ l₇ l₈ l₉ l₁₀ l₁₁ l₁₂ l₁₃ l₁₄ l₁₅ l₁₆ l₁₇ l₁₈ l₁₉ l₂₀ l₂₁) Post))
       after-turn-after r₁ w₁ is₁ e₁ r₃ w₃ is₃ e₃ r w near′ far′ slots′ daily′ readings′ is e l-near l-far l-slots l-daily l-readings r₂ w₂ is₂ e₂ =
@@ -274,7 +274,7 @@ module _ {M : Type 1} (𝓤 : URA M) (H : Heap 𝓤) (A : Atoms 𝓤) (W : Given
         begun l₀ l₁ l₂ l₃ l₄ l₅ l₆ l₇ l₈ l₉ l₁₀ l₁₁ l₁₂ l₁₃ l₁₄ l₁₅ l₁₆ l₁₇ l₁₈ l₁₉ l₂₀ l₂₁))))))))))))))))))))))
 
 module _ {M : Type 1} (𝓤 : URA M) (H : Heap 𝓤) (A : Atoms 𝓤) (W : Given 𝓤 H A) (mem : Memory → SProp 𝓤) (run : Routine → Fun 𝓤) where
-  walks : (C : Calls 𝓤 H) (Λ : Loops 𝓤 H) → FmC 𝓤 H (W .laws) C → Triple 𝓤 (C #turns·line-of) (LineOf 𝓤 H A mem run) → Triple 𝓤 (C #turns·record-of) (RecordOf 𝓤 H A mem run) → Triple 𝓤 (C #site·Record·line) (Line 𝓤 H A mem run) → Triple 𝓤 (C #turns·turn-after) (TurnAfter 𝓤 H A mem run) → Walks 𝓤 H A f.ended stayed (WpFn 𝓤 H C Λ code.function) (f.clauses 𝓤 H A mem run)
+  walks : (C : Calls 𝓤 H) (Λ : Loops 𝓤 H) → FmC 𝓤 H (W .laws) C → Triple 𝓤 (C #turn-lines·line-of) (LineOf 𝓤 H A mem run) → Triple 𝓤 (C #turn-lines·record-of) (RecordOf 𝓤 H A mem run) → Triple 𝓤 (C #site·Record·line) (Line 𝓤 H A mem run) → Triple 𝓤 (C #turn-lines·turn-after) (TurnAfter 𝓤 H A mem run) → Walks 𝓤 H A f.ended stayed (WpFn 𝓤 H C Λ code.function) (f.clauses 𝓤 H A mem run)
   walks C Λ fm known-line-of known-record-of known-line known-turn-after = walked 𝓤 H A f.ended stayed (f.clauses 𝓤 H A mem run) (WpFn 𝓤 H C Λ code.function)
       (λ κs. (LL.vals U.the-type U′.the-laws, (slice-vals, (slice-vals, (slice-vals, (slice-vals, (slice-vals, (slice-vals, (slice-vals, tt)))))))))
       (λ κs. (LL.tells U.the-type U′.the-laws, (shr-slice-tells (named 0) (κs .0) u8, (mut-slice-tells (named 1) (κs .1 .0) u32, (mut-slice-tells (named 2) (κs .1 .1 .0) u32, (mut-slice-tells (named 3) (κs .1 .1 .1 .0) u16, (mut-slice-tells (named 4) (κs .1 .1 .1 .1 .0) u32, (mut-slice-tells (named 5) (κs .1 .1 .1 .1 .1 .0) R.the-row, (shr-slice-tells (named 6) (κs .1 .1 .1 .1 .1 .1 .0) u64, tt)))))))))
@@ -282,7 +282,7 @@ module _ {M : Type 1} (𝓤 : URA M) (H : Heap 𝓤) (A : Atoms 𝓤) (W : Given
       (a .0) (a .1 .0) (a .1 .1 .0) (a .1 .1 .1 .0) (a .1 .1 .1 .1 .0) (a .1 .1 .1 .1 .1 .0) (a .1 .1 .1 .1 .1 .1 .0) (a .1 .1 .1 .1 .1 .1 .1 .0)
       (are .0) (are .1 .0 .0 .1) (are .1 .1 .0 .0 .1) (are .1 .1 .1 .0 .0 .1) (are .1 .1 .1 .1 .0 .0 .1) (are .1 .1 .1 .1 .1 .0 .0 .1) (are .1 .1 .1 .1 .1 .1 .0 .0 .1) (are .1 .1 .1 .1 .1 .1 .1 .0 .0 .1) C Λ fm known-line-of known-record-of known-line known-turn-after))
 
-meets : {M : Type 1} (𝓤 : URA M) (H : Heap 𝓤) (A : Atoms 𝓤) → Given 𝓤 H A → (mem : Memory → SProp 𝓤) (run : Routine → Fun 𝓤) (𝓣 : Tables 𝓤 H) → Triple 𝓤 (𝓣 .C #turns·line-of) (LineOf 𝓤 H A mem run) → Triple 𝓤 (𝓣 .C #turns·record-of) (RecordOf 𝓤 H A mem run) → Triple 𝓤 (𝓣 .C #site·Record·line) (Line 𝓤 H A mem run) → Triple 𝓤 (𝓣 .C #turns·turn-after) (TurnAfter 𝓤 H A mem run)
+meets : {M : Type 1} (𝓤 : URA M) (H : Heap 𝓤) (A : Atoms 𝓤) → Given 𝓤 H A → (mem : Memory → SProp 𝓤) (run : Routine → Fun 𝓤) (𝓣 : Tables 𝓤 H) → Triple 𝓤 (𝓣 .C #turn-lines·line-of) (LineOf 𝓤 H A mem run) → Triple 𝓤 (𝓣 .C #turn-lines·record-of) (RecordOf 𝓤 H A mem run) → Triple 𝓤 (𝓣 .C #site·Record·line) (Line 𝓤 H A mem run) → Triple 𝓤 (𝓣 .C #turn-lines·turn-after) (TurnAfter 𝓤 H A mem run)
     → Meets 𝓤 H A f.signature (WpFn 𝓤 H (𝓣 .C) (𝓣 .Λ) code.function) (f.spec 𝓤 H A mem run)
 meets 𝓤 H A W mem run 𝓣 known-line-of known-record-of known-line known-turn-after =
     walk-meets 𝓤 H A f.ended stayed W
@@ -295,7 +295,7 @@ give-spec 𝓤 H 𝓜 𝓖 𝓡 =
     entered 𝓤 H (tripleOf 𝓤 H (𝓖 .A) f.signature (f.spec 𝓤 H (𝓖 .A) (𝓜 .mem) (𝓡 .run)))
     (tables 𝓤 H 𝓜 𝓡 code.env .C) (tables 𝓤 H 𝓜 𝓡 code.env .Λ) #giving·give code.function (code.unfolded 𝓤 H 𝓜 𝓡)
     (meets 𝓤 H (𝓖 .A) (givenOf 𝓤 H 𝓜 𝓖) (𝓜 .mem) (𝓡 .run) (tablesOf 𝓤 H 𝓜 (tables 𝓤 H 𝓜 𝓡 code.env))
-    (cited 𝓤 H (LineOf 𝓤 H (𝓖 .A) (𝓜 .mem) (𝓡 .run)) 𝓜 𝓡 code.env #turns·line-of line-of-def.routine code.calls-turns·line-of (line-of-thm.met 𝓤 H 𝓜 𝓖 𝓡))
-    (cited 𝓤 H (RecordOf 𝓤 H (𝓖 .A) (𝓜 .mem) (𝓡 .run)) 𝓜 𝓡 code.env #turns·record-of record-of-def.routine code.calls-turns·record-of (record-of-thm.met 𝓤 H 𝓜 𝓖 𝓡))
+    (cited 𝓤 H (LineOf 𝓤 H (𝓖 .A) (𝓜 .mem) (𝓡 .run)) 𝓜 𝓡 code.env #turn-lines·line-of line-of-def.routine code.calls-turn-lines·line-of (line-of-thm.met 𝓤 H 𝓜 𝓖 𝓡))
+    (cited 𝓤 H (RecordOf 𝓤 H (𝓖 .A) (𝓜 .mem) (𝓡 .run)) 𝓜 𝓡 code.env #turn-lines·record-of record-of-def.routine code.calls-turn-lines·record-of (record-of-thm.met 𝓤 H 𝓜 𝓖 𝓡))
     (cited 𝓤 H (Line 𝓤 H (𝓖 .A) (𝓜 .mem) (𝓡 .run)) 𝓜 𝓡 code.env #site·Record·line line-def.routine code.calls-site·Record·line (line-thm.met 𝓤 H 𝓜 𝓖 𝓡))
-    (cited 𝓤 H (TurnAfter 𝓤 H (𝓖 .A) (𝓜 .mem) (𝓡 .run)) 𝓜 𝓡 code.env #turns·turn-after turn-after-def.routine code.calls-turns·turn-after (turn-after-thm.met 𝓤 H 𝓜 𝓖 𝓡)))
+    (cited 𝓤 H (TurnAfter 𝓤 H (𝓖 .A) (𝓜 .mem) (𝓡 .run)) 𝓜 𝓡 code.env #turn-lines·turn-after turn-after-def.routine code.calls-turn-lines·turn-after (turn-after-thm.met 𝓤 H 𝓜 𝓖 𝓡)))

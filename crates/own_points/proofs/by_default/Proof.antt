@@ -7,7 +7,7 @@ use Rattle.own_points.proofs.by_default.Tie as tie
 use Rattle.own_points.proofs.by_default.Reads as reads
 use Rattle.own_points.proofs.by_default.Lts as lts
 use Rattle.own_points.proofs.filled_by.Reads as filled-by-reads
-use Rattle.rounding.proofs.by_default.Reads as by-default-reads
+use Rattle.rebuilding.proofs.by_default.Reads as by-default-reads
 
 by-default-requires : tie.Need-by-default-requires
 by-default-requires c κs =

@@ -7,7 +7,7 @@ use Rattle.own_points.proofs.profiled.Tie as tie
 use Rattle.own_points.proofs.profiled.Reads as reads
 use Rattle.own_points.proofs.profiled.Lts as lts
 use Rattle.own_points.proofs.filled_by.Reads as filled-by-reads
-use Rattle.rounding.proofs.profiled.Reads as profiled-reads
+use Rattle.rebuilding.proofs.profiled.Reads as profiled-reads
 
 returns : tie.Need-returns
 returns c = let a = c .before .args in empty-filled (a .energy) (a .profile) (a .total) (c .if1 .taken)

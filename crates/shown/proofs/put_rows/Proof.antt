@@ -5,7 +5,7 @@ use Prim.Native.Nat.{_+_, _-_, _*_, _≤_}
 use lib.ListN.{length, take}
 use Rattle.printed.specs.Put.{Put}
 use Rattle.printed.proofs.Chains.{put-length, put-then}
-use Rattle.closing.specs.Rows.{noYear}
+use Rattle.report.specs.Rows.{noYear}
 use Rattle.shown.specs.Shown.{rowsText}
 use Rattle.shown.proofs.Rows.{put-none, rows-none, rows-next, rows-all}
 use Rattle.shown.proofs.put_rows.Statement.{statement}

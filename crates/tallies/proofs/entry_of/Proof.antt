@@ -10,7 +10,7 @@ use Rattle.tallies.proofs.entry_of.Statement.{statement}
 use Rattle.tallies.proofs.entry_of.Tie as tie
 use Rattle.tallies.proofs.entry_of.Reads as reads
 use Rattle.tallies.proofs.entry_of.Lts as lts
-use Rattle.rounding.proofs.rated.Reads as rated-reads
+use Rattle.levels.proofs.rated.Reads as rated-reads
 
 enum-told : tie.Need-enum-told
 enum-told c = search needs

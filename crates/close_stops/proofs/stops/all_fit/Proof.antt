@@ -4,7 +4,7 @@ use borrow.Author.Tests.{not-true, not-false}
 use Rattle.meaning.specs.Blocks.{World}
 use Rattle.meaning.specs.Record.{Rec}
 use Rattle.readings.specs.Columns.{worldIn}
-use Rattle.taking.specs.Views.{recOf}
+use Rattle.steps.specs.Views.{recOf}
 use Rattle.close_stops.proofs.Laws.{within, fits-not, fits-record, fits-all}
 use Rattle.close_stops.proofs.stops.all_fit.Statement.{statement}
 use Rattle.close_stops.proofs.stops.all_fit.Tie as tie

@@ -9,7 +9,7 @@ use Rattle.readings.specs.Columns.{worldIn, Columned}
 use Rattle.readings.proofs.Columned.{columned}
 use Rattle.readings.proofs.Long.{long-columns}
 use Rattle.contents.proofs.Laws.{years-taken}
-use Rattle.taking.specs.Views.{recOf}
+use Rattle.steps.specs.Views.{recOf}
 use Rattle.close_stops.proofs.Laws.{history-by, axis-by, fits-contents}
 use Rattle.close_stops.proofs.stops.blocks_fit.Statement.{statement}
 use Rattle.close_stops.proofs.stops.blocks_fit.Tie as tie

@@ -12,10 +12,10 @@ use Rattle.curve.proofs.whole.basis_of.Statement.{statement}
 use Rattle.curve.proofs.whole.basis_of.Tie as tie
 use Rattle.curve.proofs.whole.basis_of.Reads as reads
 use Rattle.curve.proofs.whole.basis_of.Lts as lts
-use Rattle.calendar.proofs.spans.history.Reads as history-reads
+use Rattle.spans.proofs.history.Reads as history-reads
 use Rattle.note.proofs.coefficients.theta.Reads as theta-reads
-use Rattle.years.proofs.factors.cas_from.Reads as cas-from-reads
-use Rattle.years.proofs.factors.cas_sum.Reads as cas-sum-reads
+use Rattle.ca_sums.proofs.cas_from.Reads as cas-from-reads
+use Rattle.ca_sums.proofs.cas_sum.Reads as cas-sum-reads
 
 history-requires : tie.Need-history-requires
 history-requires c κs = search needs

@@ -2,7 +2,7 @@ use mathlib.Core.Path.{_∙_}
 use borrow.Author.Needs.{needs}
 use Rattle.ranges.specs.Ranges.{siteStands}
 use Rattle.meaning.specs.Record.{recFits, isTaken, historyOfRec, historyOfSite}
-use Rattle.taking.specs.Views.{recOf}
+use Rattle.steps.specs.Views.{recOf}
 use Rattle.early.proofs.Gave.{al-given, filiere-given}
 use Rattle.early.proofs.ranges_of.record_fits.Statement.{statement}
 use Rattle.early.proofs.ranges_of.record_fits.Tie as tie

@@ -16,7 +16,7 @@ use Rattle.feed.proofs.feeding.feed.Lts as lts
 use Rattle.feed.proofs.feeding.carry.Reads as carry-reads
 use Rattle.runs.proofs.opened_of.Reads as opened-of-reads
 use Rattle.feed.proofs.lines.feed_lines.Reads as feed-lines-reads
-use Rattle.turns.proofs.is_answered.Reads as is-answered-reads
+use Rattle.answered.proofs.is_answered.Reads as is-answered-reads
 
 is-answered-requires : tie.Need-is-answered-requires
 is-answered-requires c κs = search needs

@@ -7,7 +7,7 @@ use Rattle.feed.proofs.lines.held_on.Lts as lts
 use Rattle.begun.proofs.appended.Reads as appended-reads
 use Rattle.begun.proofs.least.Reads as least-reads
 use Rattle.feed.proofs.lines.held_of.Reads as held-of-reads
-use Rattle.turns.proofs.is_answered.Reads as is-answered-reads
+use Rattle.answered.proofs.is_answered.Reads as is-answered-reads
 
 least-requires : tie.Need-least-requires
 least-requires c κs = search needs

@@ -11,7 +11,7 @@ use Rattle.filed.proofs.reading.run.Statement.{statement}
 use Rattle.filed.proofs.reading.run.Tie as tie
 use Rattle.filed.proofs.reading.run.Reads as reads
 use Rattle.filed.proofs.reading.run.Lts as lts
-use Rattle.turns.proofs.is_answered.Reads as is-answered-reads
+use Rattle.answered.proofs.is_answered.Reads as is-answered-reads
 use Rattle.ends.proofs.after.Reads as after-reads
 use Rattle.ends.proofs.told.Reads as told-reads
 use Rattle.filed.proofs.reading.begin.Reads as begin-reads

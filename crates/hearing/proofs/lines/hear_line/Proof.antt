@@ -3,7 +3,7 @@ use borrow.Author.Needs.{needs}
 use lib.ListN.{length}
 use mathlib.Core.Bool.{_&&_}
 use Rattle.meaning.specs.Record.{recFits}
-use Rattle.taking.specs.Views.{recOf}
+use Rattle.steps.specs.Views.{recOf}
 use Rattle.early.specs.Stops.{lengthsFit, earlyStop}
 use Rattle.hearing.proofs.Calls.{unheard-line, fits-open, few, line-sizes, placed, heard-line}
 use Rattle.hearing.proofs.lines.hear_line.Statement.{statement}
@@ -27,8 +27,8 @@ take-line-requires c κs =
       line-sizes (a .state) (a .count) (a .progress) (a .line .now) (a .near .now) (a .far .now) (a .slots .now) (a .daily .now) (a .readings) (a .curve) (c .before .before .before .before .before .line-stop .result) (c .before .before .before .before .before .line-stop .ensures) (c .before .before .before .before .if1 .left),
     )
 
-heard-requires : tie.Need-heard-requires
-heard-requires c κs =
+counted-requires : tie.Need-counted-requires
+counted-requires c κs =
     let a = c .before .before .before .before .before .before .before .before .before .before .before .before .before .before .before .before .before .before .before .before .args in
     let k = c .before .before .before .before .before .before .before .before .before .before .before .before .before .before .line-stop .result in
     let e = c .before .before .before .before .before .before .before .before .before .before .before .before .before .before .line-stop .ensures in
@@ -55,7 +55,7 @@ returns-2 c =
     let k = c .before .before .before .before .before .before .before .before .before .before .before .before .before .before .before .line-stop .result in
     let e = c .before .before .before .before .before .before .before .before .before .before .before .before .before .before .before .line-stop .ensures in
     let z = c .before .before .before .before .before .before .before .before .before .before .before .before .before .before .if1 .left in
-    heard-line (a .state) (a .count) (a .progress) (a .line .now) (a .near .now) (a .far .now) (a .slots .now) (a .daily .now) (a .readings) (a .curve) k e z (c .before .before .before .before .before .before .before .before .before .take-line .result) _ _ _ _ (c .before .before .before .before .before .before .before .before .before .take-line .ensures) _ (c .heard .ensures)
+    heard-line (a .state) (a .count) (a .progress) (a .line .now) (a .near .now) (a .far .now) (a .slots .now) (a .daily .now) (a .readings) (a .curve) k e z (c .before .before .before .before .before .before .before .before .before .take-line .result) _ _ _ _ (c .before .before .before .before .before .before .before .before .before .take-line .ensures) _ (c .counted .ensures)
 
 pub hear-line-spec : {M : Type 1} → statement M
-hear-line-spec = tie.close (tie.spec line-stop-requires unheard-requires returns take-line-requires heard-requires same-length same-length-2 same-length-3 same-length-4 returns-2)
+hear-line-spec = tie.close (tie.spec line-stop-requires unheard-requires returns take-line-requires counted-requires same-length same-length-2 same-length-3 same-length-4 returns-2)

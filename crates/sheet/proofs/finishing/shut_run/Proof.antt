@@ -2,7 +2,7 @@ use mathlib.Core.Path.{_≡_, ap, sym, _∙_}
 use borrow.Author.Needs.{needs}
 use Rattle.readings.specs.Readings.{seen}
 use Rattle.readings.specs.Columns.{world}
-use Rattle.ending.specs.Ends.{handed}
+use Rattle.ended.specs.Ends.{handed}
 use Rattle.site.specs.declared.Closed.{Closed}
 use Rattle.site.specs.Views.{view, handsBack, closesBack}
 use Rattle.sheet.proofs.Ends.{back-answered, shut-open}
@@ -10,9 +10,9 @@ use Rattle.sheet.proofs.finishing.shut_run.Statement.{statement}
 use Rattle.sheet.proofs.finishing.shut_run.Tie as tie
 use Rattle.sheet.proofs.finishing.shut_run.Reads as reads
 use Rattle.sheet.proofs.finishing.shut_run.Lts as lts
-use Rattle.own_readings.proofs.close_own.Reads as close-own-reads
+use Rattle.own_close.proofs.close_own.Reads as close-own-reads
 use Rattle.sheet.proofs.finishing.unclosed.Reads as unclosed-reads
-use Rattle.turns.proofs.is_answered.Reads as is-answered-reads
+use Rattle.answered.proofs.is_answered.Reads as is-answered-reads
 
 is-answered-requires : tie.Need-is-answered-requires
 is-answered-requires c κs = search needs

@@ -6,10 +6,10 @@ use Rattle.fields.specs.Fields.{Tells}
 use Rattle.intake.specs.Reads.{knownTag}
 use Rattle.intake.proofs.Tags.{told-illegible, told-legible}
 use Rattle.judge.specs.Before.{Known, OneOfTag}
-use Rattle.taking.specs.Views.{openRec}
-use Rattle.taking.specs.Steps.{lineBlocks}
-use Rattle.taking.proofs.Steps.{answered, step-2, step-3, stay-S, stay-C, stay-X, stay-D, stay-P, stay-B, stay-R, stay-E}
-use Rattle.taking.proofs.Rows.{few-profiles, few-sums}
+use Rattle.steps.specs.Views.{openRec}
+use Rattle.steps.specs.Steps.{lineBlocks}
+use Rattle.steps.proofs.Steps.{answered, step-2, step-3, stay-S, stay-C, stay-X, stay-D, stay-P, stay-B, stay-R, stay-E}
+use Rattle.steps.proofs.Rows.{few-profiles, few-sums}
 use Rattle.taking.proofs.Dispatch.{known, unknown-by}
 use Rattle.taking.proofs.by_tag.take_line.Statement.{statement}
 use Rattle.taking.proofs.by_tag.take_line.Tie as tie

@@ -8,7 +8,7 @@ use Rattle.turns.proofs.next.next_turn.Lts as lts
 use Rattle.begun.proofs.end.Reads as end-reads
 use Rattle.begun.proofs.is_whole.Reads as is-whole-reads
 use Rattle.begun.proofs.least.Reads as least-reads
-use Rattle.turns.proofs.answered.is_answered.Reads as is-answered-reads
+use Rattle.answered.proofs.is_answered.Reads as is-answered-reads
 use Rattle.turns.proofs.next.is_given.Reads as is-given-reads
 
 least-requires : tie.Need-least-requires

@@ -9,8 +9,7 @@ use Rattle.lists.specs.Lists.{tab}
 use Rattle.lists.proofs.Turns.{set-on, set-end}
 use mathlib.Core.Bool.{_&&_}
 use Rattle.calendar.specs.Places.{hasWinterDate}
-use Rattle.years.specs.Years.{isSet}
-use Rattle.years.specs.Years.{giversOn, bit}
+use Rattle.years.specs.Years.{isSet, giversOn, bit}
 use Rattle.years.proofs.days.givers_on.Statement.{statement}
 use Rattle.years.proofs.days.givers_on.Tie as tie
 use Rattle.years.proofs.days.givers_on.Reads as reads

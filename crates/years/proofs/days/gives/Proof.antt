@@ -1,7 +1,6 @@
 use mathlib.Core.Path.{_≡_, sym, _∙_}
 use borrow.Author.Tests.{eq-eqb, ne-eqb}
-use Rattle.years.specs.Years.{isSet}
-use Rattle.years.specs.Years.{bit}
+use Rattle.years.specs.Years.{isSet, bit}
 use borrow.Author.Needs.{needs}
 use Rattle.years.proofs.days.gives.Statement.{statement}
 use Rattle.years.proofs.days.gives.Tie as tie

@@ -1,0 +1,4 @@
+// Whether a run has its answer.
+mod answered;
+
+pub use answered::is_answered;

@@ -1,0 +1,113 @@
+// What a close hands back.
+ghost use mathlib.Core.Path.{_≡_};
+ghost use mathlib.Core.Bool.{cond};
+ghost use Prim.Native.Nat.{_≤_, _<_, _*_};
+ghost use lib.ListN.{length};
+ghost use Rattle.meaning.specs.Text.{letterOfCase};
+ghost use Rattle.cases.specs.Cases.{meantCase};
+ghost use Rattle.report.specs.Rows.{rowIn, rowsIn, refusedBy, reportedBy};
+use crate::Closing;
+use crate::Year;
+use calendar::Years;
+use cases::Case;
+use curve::Filling;
+
+// A case as the sheet has it.
+fn letter_of(case: Case) -> u8
+    ensures { λ r. ⌜ r ≡ letterOfCase (meantCase case) ⌝ }
+{
+    match case {
+        Case::M => b'M',
+        Case::T1 => b'1',
+        Case::T2 => b'2',
+        Case::T3 => b'3',
+        Case::T4 => b'4',
+        Case::P => b'P',
+        Case::I5 => b'5',
+        Case::I6 => b'6',
+    }
+}
+
+fn row(year: u64, code: u64, present: u64) -> Year
+    ensures { λ r. ⌜ r ≡ rowIn year code present ⌝ }
+{
+    Year {
+        year,
+        case: letter_of(cases::case_at(code)),
+        present,
+    }
+}
+
+fn rows(h: Years, codes: [u64; 10], present: [u64; 10]) -> [Year; 10]
+    requires { ⌜ (h .first ≤ 2021) × (h .count ≤ 10) ⌝ }
+    ensures { λ r. ⌜ r ≡ rowsIn h codes present ⌝ }
+{
+    let n = h.count as usize;
+    let none = Year {
+        year: 0,
+        case: 0,
+        present: 0,
+    };
+    let mut years = [none; 10];
+    let mut k = 0;
+    while k < n {
+        let y = row(h.first + (k as u64), codes[k], present[k]);
+        years[k] = y;
+        k += 1;
+    }
+    years
+}
+
+pub fn refused(number: u64) -> Closing
+    ensures { λ r. ⌜ r ≡ refusedBy number ⌝ }
+{
+    let none = Year {
+        year: 0,
+        case: 0,
+        present: 0,
+    };
+    Closing {
+        number,
+        level: 0,
+        points: 0,
+        years: [none; 10],
+    }
+}
+
+pub fn reported(al: u64, filiere: u64, h: Years, codes: [u64; 10], f: Filling) -> Closing
+    requires { ⌜ (h .first ≤ 2021) × (h .count ≤ 10) ⌝ }
+    requires { ⌜ (0 < f .counted) × (f .counted ≤ 4400) × (f .sum ≤ 20_000_000_000_000 * f .counted) ⌝ }
+    ensures { λ r. ⌜ r ≡ reportedBy al filiere h codes f ⌝ }
+{
+    let level = curve::level::ncc(al, filiere, f.sum, f.counted);
+    let present = f.present;
+    let years = rows(h, codes, present);
+    Closing {
+        number: 0,
+        level,
+        points: f.counted,
+        years,
+    }
+}
+
+fn copy(filled: &[u64; 4400], curve: &mut [u64])
+    requires { ⌜ (length (now filled) ≡ 4400) × (length (now curve) ≡ 4400) ⌝ }
+    ensures { λ r. ⌜ now (curve .exit) ≡ now (filled .entry) ⌝ }
+{
+    let mut i = 0;
+    while i < 4400 {
+        curve[i] = filled[i];
+        i += 1;
+    }
+}
+
+// The filled curve into the lent one, which stays as it was where a point exceeds.
+pub fn lend(exceeds: bool, filled: &[u64; 4400], curve: &mut [u64])
+    requires { ⌜ (length (now filled) ≡ 4400) × (length (now curve) ≡ 4400) ⌝ }
+    ensures { λ r. ⌜ now (curve .exit) ≡ cond exceeds (now (curve .entry)) (now (filled .entry)) ⌝ }
+{
+    if exceeds {
+        return;
+    }
+    copy(filled, curve);
+}

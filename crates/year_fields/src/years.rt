@@ -1,0 +1,40 @@
+// B, R and E: a year, a year and its rate, a count.
+use fields::Fields;
+use intake::CountRead;
+use intake::RateRead;
+use intake::YearRead;
+use intake::both;
+use intake::is_number;
+ghost use mathlib.Core.Path.{_≡_};
+ghost use Rattle.fields.specs.Fields.{Of};
+ghost use Rattle.intake.specs.Reads.{yearReadOf, rateReadOf, countReadOf};
+
+pub fn read_year(told: Fields) -> YearRead
+    ensures { λ r. ⌜ Of told (λ l. r ≡ yearReadOf l) ⌝ }
+{
+    YearRead {
+        formed: is_number(told.shapes[1]),
+        year: told.values[1],
+    }
+}
+
+pub fn read_rate(told: Fields) -> RateRead
+    ensures { λ r. ⌜ Of told (λ l. r ≡ rateReadOf l) ⌝ }
+{
+    let year = is_number(told.shapes[1]);
+    let rate = is_number(told.shapes[2]);
+    RateRead {
+        formed: both(year, rate),
+        year: told.values[1],
+        rate: told.values[2],
+    }
+}
+
+pub fn read_count(told: Fields) -> CountRead
+    ensures { λ r. ⌜ Of told (λ l. r ≡ countReadOf l) ⌝ }
+{
+    CountRead {
+        formed: is_number(told.shapes[1]),
+        count: told.values[1],
+    }
+}
