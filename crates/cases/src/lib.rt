@@ -1,8 +1,7 @@
-// The case of each history year, the first that fits (document 01, Cases).
+// The case of a history year, the first that fits, and the number that it is kept as (document 01, Cases).
 ghost use mathlib.Core.Path.{_≡_};
-ghost use Prim.Native.Nat.{_≤_};
 ghost use Rattle.meaning.specs.Cases.{mark};
-ghost use Rattle.cases.specs.Cases.{codeOfCase, caseOfCode, caseWith, someSet, caseCodes};
+ghost use Rattle.cases.specs.Cases.{codeOfCase, caseOfCode, caseWith};
 
 // Measured; profiled (T1, P); rebuilt from curves (T2) or from profiled years (T3, I5); default power (T4, I6).
 pub enum Case {
@@ -80,42 +79,4 @@ pub fn case_at(code: u64) -> Case
         6 => Case::I6,
         _ => Case::P,
     }
-}
-
-// Whether one of the first n marks is set.
-fn some_set(marks: &[u64; 10], n: usize) -> bool
-    requires { ⌜ n ≤ 10 ⌝ }
-    ensures { λ r. ⌜ r ≡ someSet n (now (marks .entry)) ⌝ }
-{
-    let mut k = 0;
-    while k < n {
-        if marks[k] != 0 {
-            return true;
-        }
-        k += 1;
-    }
-    false
-}
-
-// The codes of the n history years' cases, 0 for the rest.
-pub fn cases_of(curve_meter: bool, n: usize, curves: &[u64; 10], indexes: &[u64; 10]) -> [u64; 10]
-    requires { ⌜ n ≤ 10 ⌝ }
-    ensures { λ r. ⌜ r ≡ caseCodes «curve_meter» n (now (curves .entry)) (now (indexes .entry)) ⌝ }
-{
-    let some_curve = some_set(curves, n);
-    let some_index = some_set(indexes, n);
-    let mut codes = [0u64; 10];
-    let mut k = 0;
-    while k < n {
-        let case = case_of(
-            curve_meter,
-            some_curve,
-            some_index,
-            curves[k] != 0,
-            indexes[k] != 0,
-        );
-        codes[k] = code_of(case);
-        k += 1;
-    }
-    codes
 }

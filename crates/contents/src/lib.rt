@@ -4,10 +4,10 @@ ghost use Prim.Native.Nat.{_-_, _≤_};
 ghost use lib.ListN.{length};
 ghost use Rattle.contents.specs.Contents.{contentsIn};
 pub use axis_blocks::daily_fit;
-pub use axis_blocks::readings_fit;
 use calendar::Years;
+pub use profile_blocks::slots_fit;
+pub use reading_blocks::readings_fit;
 pub use winter_blocks::points_fit;
-pub use winter_blocks::slots_fit;
 
 // A year some years before another, and 0 where there is none: an AL is 0 until S is taken.
 fn years_before(year: u64, years: u64) -> u64

@@ -18,9 +18,9 @@ use Rattle.pieces.specs.Parts.{stepped}
 use Rattle.pieces.proofs.Lines.{Endless}
 use Rattle.pieces.proofs.Feeding.{fed-append}
 use Rattle.pieces.proofs.Parts.{end-endless, longer-given, rest-is, fed-begun, turn-fed}
-use Rattle.begun.specs.declared.Joined.{Joined}
-use Rattle.begun.specs.Joined.{heldOf, limitOf, addedOf, joinedOf}
-use Rattle.begun.proofs.Joins.{bytes-fit}
+use Rattle.joining.specs.declared.Joined.{Joined}
+use Rattle.joining.specs.Joined.{heldOf, limitOf, addedOf, joinedOf}
+use Rattle.joining.proofs.Joins.{bytes-fit}
 use Rattle.readings.specs.declared.Reading.{Reading}
 use Rattle.answers.specs.Views.{answerView}
 use Rattle.site.specs.Views.{handsBack}

@@ -1,7 +1,7 @@
 // A piece of the input, of any size.
 use crate::lines::feed_lines;
 use answered::is_answered;
-use begun::join;
+use joining::join;
 use own_line::line_own;
 use readings::Reading;
 use runs::Fed;

@@ -1,7 +1,7 @@
 // The lines of a piece that none is begun before.
 use answered::is_answered;
-use begun::appended;
 use begun::least;
+use joining::appended;
 use own_lines::KeptTurn;
 use own_lines::give_own;
 use readings::Reading;

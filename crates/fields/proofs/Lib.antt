@@ -1,3 +1,2 @@
-pub mod Shaped
 pub mod Told
 pub mod Read

@@ -9,7 +9,7 @@ use Rattle.text.specs.Fields.{tabs, fieldAt}
 use Rattle.text.specs.Numbers.{valueOf, most}
 use Rattle.meaning.specs.Line.{Line}
 use Rattle.meaning.specs.Refusals.{isIllegible}
-use Rattle.fields.specs.Shapes.{shapeOf}
+use Rattle.shapes.specs.Shapes.{shapeOf}
 use Rattle.fields.specs.Fields.{noFields, shapesOf, valuesOf, fieldsOf, Tells}
 use Rattle.fields.specs.declared.Fields.{Fields}
 

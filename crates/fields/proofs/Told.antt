@@ -19,10 +19,10 @@ use Rattle.text.specs.declared.Numbered.{Numbered}
 use Rattle.text.proofs.Laws.{tab-le, first-of, past-none, field-beyond}
 use Rattle.meaning.specs.Line.{Line}
 use Rattle.meaning.specs.Refusals.{isIllegible}
-use Rattle.fields.specs.Shapes.{aloneOf, shapeOf}
+use Rattle.shapes.specs.Shapes.{aloneOf, shapeOf}
 use Rattle.fields.specs.Fields.{noFields, shapesOf, valuesOf, fieldsOf}
 use Rattle.fields.specs.declared.Fields.{Fields}
-use Rattle.fields.proofs.Shaped.{shape-empty}
+use Rattle.shapes.proofs.Shaped.{shape-empty}
 
 -- a field's number up to the most
 unfoldable pub cappedOf : List ℕ → ℕ

@@ -1,7 +1,7 @@
 // All fields of a line.
 use crate::Fields;
-use crate::OTHER;
-use crate::shapes::shape_of;
+use shapes::OTHER;
+use shapes::shape_of;
 ghost use mathlib.Core.Path.{_≡_};
 ghost use Rattle.fields.specs.Fields.{noFields, fieldsOf};
 

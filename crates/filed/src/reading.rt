@@ -5,50 +5,18 @@ use ends::Filed;
 use ends::after;
 use ends::told;
 use feed::feed;
-use own_readings::open_own;
+use first_run::begin;
 use runs::Fed;
-use runs::fresh_readings;
-use runs::start;
 use sheet::finish;
-use site::Record;
 ghost use mathlib.Core.Path.{_≡_};
-ghost use Rattle.meaning.specs.Record.{neverOpened};
-ghost use Rattle.pieces.specs.Run.{started, fed};
+ghost use Rattle.pieces.specs.Run.{fed};
 ghost use Rattle.readings.specs.Readings.{seen};
 ghost use Rattle.readings.specs.Columns.{world};
 ghost use Rattle.runs.specs.Views.{runView};
-ghost use Rattle.runs.specs.Start.{freshReadings};
 ghost use Rattle.filed.specs.Ends.{HandsOut};
 
 // One more than the bytes after which a run has its answer: 8,032 lines of 321. Each turn reads one or more.
 const TURNS: u64 = 2_578_273;
-
-// On a record that is opened.
-fn begin(
-    near: &mut [u32],
-    far: &mut [u32],
-    slots: &mut [u16],
-    daily: &mut [u32],
-    curve: &mut [u64],
-) -> Fed
-    ensures { λ r. ⌜ runView (r .run) (world (now (near .exit)) (now (far .exit)) (now (slots .exit)) (now (daily .exit)) (seen (r .readings)) (now (curve .exit))) ≡ started neverOpened (world (now (near .entry)) (now (far .entry)) (now (slots .entry)) (now (daily .entry)) (seen freshReadings) (now (curve .entry))) ⌝ }
-{
-    let kept = open_own(
-        Record::never_opened(),
-        near,
-        far,
-        slots,
-        daily,
-        fresh_readings(),
-        curve,
-    );
-    let opened = kept.opened;
-    let readings = kept.readings;
-    Fed {
-        run: start(opened),
-        readings,
-    }
-}
 
 // Over one more piece.
 fn go_on(

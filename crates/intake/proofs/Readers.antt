@@ -11,7 +11,7 @@ use Rattle.meaning.specs.Line.{Line, numberAt, meterOf, meterOfLetter, isMeter,
 use Rattle.meaning.specs.Blocks.{letterOfKind}
 use Rattle.fields.specs.Fields.{Tells}
 use Rattle.fields.specs.declared.Fields.{Fields}
-use Rattle.fields.proofs.Shaped.{shape-number, shape-edition, shape-meter, shape-kind}
+use Rattle.shapes.proofs.Shaped.{shape-number, shape-edition, shape-meter, shape-kind}
 use Rattle.fields.proofs.Read.{shape-at, value-at}
 use Rattle.intake.specs.Views.{meterView, meterShown}
 use Rattle.intake.specs.Reads.{cappedAt, isDateFormed, siteReadOf, readingReadOf, dailyReadOf, yearReadOf, rateReadOf, countReadOf}

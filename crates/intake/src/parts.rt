@@ -1,6 +1,6 @@
 // What lines have in common: numbers, and a date past the tag.
 use fields::Fields;
-use fields::NUMBER;
+use shapes::NUMBER;
 ghost use mathlib.Core.Path.{_≡_};
 ghost use mathlib.Core.Bool.{_&&_};
 ghost use lib.Dec.{eqb};

@@ -1,3 +1,3 @@
-// 15 and the part of 16 on profiles, as `year_dates` has them.
-pub use year_dates::dates::lacks_profile;
-pub use year_dates::dates::partial;
+// 15 and the part of 16 on profiles, as `partial_dates` and `profile_lacks` have them.
+pub use partial_dates::partial;
+pub use profile_lacks::lacks_profile;

@@ -121,7 +121,7 @@ pub fn marks_of<'a>(
     let years = h.count as usize;
     let curves = curve_marks(near, far, al, h, breaks);
     let indexes = index_marks(positions, kinds, n, years, breaks);
-    let codes = cases::cases_of(is_curve(meter), years, &curves, &indexes);
+    let codes = case_codes::cases_of(is_curve(meter), years, &curves, &indexes);
     let defaults = default_marks(codes, years);
     Marks {
         curves,

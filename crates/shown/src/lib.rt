@@ -1,8 +1,8 @@
 // The text of a sheet: at most 86 bytes of its N line and 46 of each Y line.
 use answers::Answer;
-use printed::put_level;
 use printed::put_refusal;
-use printed::put_year;
+use printed_report::put_level;
+use printed_report::put_year;
 use report::Year;
 ghost use Prim.Native.Nat.{_+_, _≤_};
 ghost use lib.ListN.{length};

@@ -1,11 +1,11 @@
 // S: edition, AL, filière, meter, PS.
-use fields::EDITION;
 use fields::Fields;
 use intake::Meter;
 use intake::Site;
 use intake::SiteRead;
 use intake::both;
 use intake::is_number;
+use shapes::EDITION;
 ghost use mathlib.Core.Path.{_≡_};
 ghost use Rattle.meaning.specs.Line.{meterOfLetter, isMeter};
 ghost use Rattle.meaning.specs.Refusals.{isTooSoon};

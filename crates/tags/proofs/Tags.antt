@@ -12,7 +12,7 @@ use Rattle.meaning.specs.Refusals.{isUnknown}
 use Rattle.meaning.proofs.Accepted.{is-tag}
 use Rattle.fields.specs.Fields.{Tells}
 use Rattle.fields.specs.declared.Fields.{Fields}
-use Rattle.fields.proofs.Shaped.{shape-tag}
+use Rattle.shapes.proofs.Shaped.{shape-tag}
 use Rattle.fields.proofs.Read.{shape-at, count-of}
 use Rattle.tags.specs.Tags.{knownTag, sizes}
 

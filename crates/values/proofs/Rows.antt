@@ -13,10 +13,10 @@ use Rattle.lists.proofs.Tables.{tab-snoc}
 use Rattle.text.specs.Fields.{upTo, past, restAt, fieldAt}
 use Rattle.text.specs.Numbers.{isNumber, isDash}
 use Rattle.meaning.specs.Line.{Line, formsOf, inForm}
-use Rattle.fields.specs.Shapes.{shapeOf}
+use Rattle.shapes.specs.Shapes.{shapeOf}
 use Rattle.fields.specs.Fields.{Tells}
 use Rattle.fields.specs.declared.Fields.{Fields}
-use Rattle.fields.proofs.Shaped.{shape-number, shape-dash}
+use Rattle.shapes.proofs.Shaped.{shape-number, shape-dash}
 use Rattle.fields.proofs.Read.{shape-at, value-at}
 use Rattle.intake.specs.Reads.{inForms, isFormed, isDateFormed}
 use Rattle.values.specs.Codes.{dash}

@@ -1,11 +1,9 @@
-// What 1 asks at the close of the blocks by winter place, points and profiles: at a date of the history what C and P can give, elsewhere fresh.
+// What 1 asks at the close of the points: at a date of the history what C can give, elsewhere missing.
 ghost use mathlib.Core.Path.{_≡_};
 ghost use Prim.Native.Nat.{_+_, _≤_, min};
-ghost use mathlib.Core.Bool.{false};
-ghost use lib.ListN.{length};
 ghost use Rattle.lists.specs.Lists.{all};
-ghost use Rattle.meaning.specs.Record.{pointFits, pointsFit, slotsFit};
-ghost use Rattle.winter_blocks.specs.Winter.{datedAt, slotFits};
+ghost use Rattle.meaning.specs.Record.{pointFits, pointsFit};
+ghost use Rattle.winter_blocks.specs.Winter.{datedAt};
 use calendar::Years;
 
 // 152 winter places of 20 half-hours.
@@ -18,7 +16,7 @@ const MISSING: u32 = 4294967295;
 const MOST_POWER: u32 = 100000000;
 
 // Whether a place in rows of winter dates has a date of the history: the first row is that of the year first.
-fn is_dated(history: Years, first: u64, place: usize) -> bool
+pub fn is_dated(history: Years, first: u64, place: usize) -> bool
     requires { ⌜ first ≤ 9999 ⌝ }
     ensures { λ r. ⌜ r ≡ datedAt history first place ⌝ }
 {
@@ -30,7 +28,7 @@ fn is_dated(history: Years, first: u64, place: usize) -> bool
 }
 
 // Where the day that begins at a place ends, in a block of a length.
-fn day_end(place: usize, length: usize) -> usize
+pub fn day_end(place: usize, length: usize) -> usize
     requires { ⌜ place ≤ length ⌝ }
     ensures { λ r. ⌜ r ≡ min (place + 20) length ⌝ }
 {
@@ -78,38 +76,6 @@ pub fn points_fit(block: &[u32], first: u64, history: Years) -> bool
         let e = day_end(i, block.len());
         if !points_on_day(&block[i..e], dated) {
             return false;
-        }
-        i += HALF_HOURS;
-    }
-    true
-}
-
-// The profile values of a day without a date.
-fn all_zero(slots: &[u16]) -> bool
-    ensures { λ r. ⌜ r ≡ all (slotFits false) (now (slots .entry)) ⌝ }
-{
-    let mut i = 0;
-    while i < slots.len() {
-        if slots[i] != 0 {
-            return false;
-        }
-        i += 1;
-    }
-    true
-}
-
-// A profile value of a day that has a date can be any: no u16 is above 65,535.
-pub fn slots_fit(slots: &[u16], history: Years) -> bool
-    requires { ⌜ history .first ≤ 9999 ⌝ }
-    ensures { λ r. ⌜ r ≡ slotsFit history (now (slots .entry)) ⌝ }
-{
-    let mut i = 0;
-    while i < slots.len() {
-        let e = day_end(i, slots.len());
-        if !is_dated(history, history.first, i) {
-            if !all_zero(&slots[i..e]) {
-                return false;
-            }
         }
         i += HALF_HOURS;
     }

@@ -1,2 +1,5 @@
-// What a close is refused for by the dates of each year.
-pub mod dates; // 15 and 16, over the dates of each year
+// How many dates a year has, for 15 and 16.
+mod dates;
+
+pub use dates::all_dates;
+pub use dates::all_winter_dates;

@@ -1,8 +1,8 @@
 // The numbers by year: P and D dates, breaks and rates.
 use crate::Tally;
 use calendar::Years;
-use year_dates::dates::all_dates;
-use year_dates::dates::all_winter_dates;
+use year_dates::all_dates;
+use year_dates::all_winter_dates;
 ghost use mathlib.Core.Path.{_≡_};
 ghost use Prim.Native.Nat.{_≤_, _+_};
 ghost use Rattle.meaning.specs.Record.{eachYear};

@@ -8,7 +8,7 @@ use Rattle.shown.proofs.put_sheet.Statement.{statement}
 use Rattle.shown.proofs.put_sheet.Tie as tie
 use Rattle.shown.proofs.put_sheet.Reads as reads
 use Rattle.shown.proofs.put_sheet.Lts as lts
-use Rattle.printed.proofs.put_level.Reads as put-level-reads
+use Rattle.printed_report.proofs.put_level.Reads as put-level-reads
 use Rattle.printed.proofs.put_refusal.Reads as put-refusal-reads
 use Rattle.shown.proofs.put_rows.Reads as put-rows-reads
 

@@ -10,7 +10,7 @@ use Rattle.feed.proofs.feeding.carry.Statement.{statement}
 use Rattle.feed.proofs.feeding.carry.Tie as tie
 use Rattle.feed.proofs.feeding.carry.Reads as reads
 use Rattle.feed.proofs.feeding.carry.Lts as lts
-use Rattle.begun.proofs.join.Reads as join-reads
+use Rattle.joining.proofs.join.Reads as join-reads
 use Rattle.feed.proofs.feeding.fed_on.Reads as fed-on-reads
 use Rattle.feed.proofs.lines.feed_lines.Reads as feed-lines-reads
 use Rattle.own_line.proofs.line_own.Reads as line-own-reads

@@ -4,7 +4,7 @@ use Rattle.feed.proofs.lines.held_on.Statement.{statement}
 use Rattle.feed.proofs.lines.held_on.Tie as tie
 use Rattle.feed.proofs.lines.held_on.Reads as reads
 use Rattle.feed.proofs.lines.held_on.Lts as lts
-use Rattle.begun.proofs.appended.Reads as appended-reads
+use Rattle.joining.proofs.appended.Reads as appended-reads
 use Rattle.begun.proofs.least.Reads as least-reads
 use Rattle.feed.proofs.lines.held_of.Reads as held-of-reads
 use Rattle.answered.proofs.is_answered.Reads as is-answered-reads

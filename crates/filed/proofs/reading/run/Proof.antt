@@ -14,7 +14,7 @@ use Rattle.filed.proofs.reading.run.Lts as lts
 use Rattle.answered.proofs.is_answered.Reads as is-answered-reads
 use Rattle.ends.proofs.after.Reads as after-reads
 use Rattle.ends.proofs.told.Reads as told-reads
-use Rattle.filed.proofs.reading.begin.Reads as begin-reads
+use Rattle.first_run.proofs.begin.Reads as begin-reads
 use Rattle.filed.proofs.reading.go_on.Reads as go-on-reads
 use Rattle.io.proofs.count.Reads as count-reads
 use Rattle.io.proofs.large_buffer.Reads as large-buffer-reads

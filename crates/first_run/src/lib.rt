@@ -1,0 +1,4 @@
+// A run at its start.
+mod opened;
+
+pub use opened::begin;

@@ -1,0 +1,4 @@
+// 16 on profiles.
+mod profiles;
+
+pub use profiles::lacks_profile;
