@@ -1,19 +1,13 @@
-// The refusals 4 to 12 of a line, tag by tag: S, B, R and E here.
+// What the refusals 4 to 12 of a line are answered with, and their laws; the functions stand by tag in `end_lines`, `year_lines`, `axis_lines` and
+// `winter_lines`.
 //
-// A line comes here once 2 and 3 have left it, so its tag is known. Each function looks at the line and at plain numbers, asks every check of its tag and
+// A line comes there once 2 and 3 have left it, so its tag is known. Each function looks at the line and at plain numbers, asks every check of its tag and
 // answers the number of the first that holds, 0 for none, with the numbers that an accepted line changes the record by.
-mod ends; // S and E
-mod years; // B and R
-
 pub use checks::first;
 pub use checks::is_late;
 pub use checks::is_reached;
 pub use checks::is_within;
-pub use ends::judge_end;
-pub use ends::judge_site;
 use intake::Site;
-pub use years::judge_break;
-pub use years::judge_rate;
 
 // S.
 pub struct SiteJudged {

@@ -1,13 +1,13 @@
 // Lines that change the progress alone: S, B, R and E.
+use end_lines::judge_end;
+use end_lines::judge_site;
 use intake::Fields;
-use judge::judge_break;
-use judge::judge_end;
-use judge::judge_rate;
-use judge::judge_site;
 use spans::history;
 use steps::Progress;
 use steps::Step;
 use steps::answer;
+use year_lines::judge_break;
+use year_lines::judge_rate;
 ghost use mathlib.Core.Path.{_≡_};
 ghost use Rattle.meaning.specs.Line.{S, B, R, E};
 ghost use Rattle.judge.specs.Before.{OfTag, OneOfTag};

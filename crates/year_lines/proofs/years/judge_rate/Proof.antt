@@ -3,12 +3,12 @@ use borrow.Author.Needs.{needs}
 use Rattle.calendar.specs.Spans.{historyYears}
 use Rattle.meaning.specs.Line.{R}
 use Rattle.meaning.specs.Refusals.{refusal}
 use Rattle.judge.specs.Before.{OfTag, beforeRising}
 use Rattle.judge.specs.Order.{numberBy}
 use Rattle.judge.proofs.Judged.{rate-refused, rate-taken}
 use Rattle.judge.proofs.ByTag.{rate-number, rate-numbers}
-use Rattle.judge.proofs.years.judge_rate.Statement.{statement}
-use Rattle.judge.proofs.years.judge_rate.Tie as tie
+use Rattle.year_lines.proofs.years.judge_rate.Statement.{statement}
+use Rattle.year_lines.proofs.years.judge_rate.Tie as tie
 
 read-rate-requires : tie.Need-read-rate-requires
 read-rate-requires c κs = search needs

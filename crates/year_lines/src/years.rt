@@ -1,6 +1,4 @@
 // B and R: a history year, and its rate.
-use crate::RateJudged;
-use crate::YearJudged;
 use checks::Checks;
 use checks::first;
 use checks::is_late;
@@ -8,14 +6,16 @@ use checks::is_reached;
 use checks::is_within;
 use intake::Fields;
 use intake::both;
+use judge::RateJudged;
+use judge::YearJudged;
 use spans::history;
 use spans::is_among;
 ghost use mathlib.Core.Path.{_≡_};
 ghost use Rattle.calendar.specs.Spans.{historyYears};
 ghost use Rattle.meaning.specs.Line.{B, R};
 ghost use Rattle.meaning.specs.Refusals.{refusal};
 ghost use Rattle.judge.specs.Before.{OfTag, beforeRising};
 ghost use Rattle.judge.specs.Answers.{yearJudged, rateJudged};
 
 pub fn judge_break(told: Fields, last: u64, al: u64, filiere: u64, latest: u64) -> YearJudged
     ensures { λ r. ⌜ OfTag B told (λ l. r ≡ yearJudged (refusal (beforeRising last (historyYears al filiere) latest) l) l) ⌝ }

@@ -1,6 +1,4 @@
 // S and E: the first line of a file and its last.
-use crate::EndJudged;
-use crate::SiteJudged;
 use checks::Checks;
 use checks::first;
 use checks::is_late;
@@ -9,12 +7,14 @@ use intake::Fields;
 use intake::Meter;
 use intake::Site;
 use intake::both;
+use judge::EndJudged;
+use judge::SiteJudged;
 use site_fields::is_too_soon;
 ghost use mathlib.Core.Path.{_≡_};
 ghost use Rattle.meaning.specs.Line.{S, E};
 ghost use Rattle.meaning.specs.Refusals.{refusal};
 ghost use Rattle.judge.specs.Before.{OfTag, beforeFirst, beforeEnd};
 ghost use Rattle.judge.specs.Answers.{siteJudged, endJudged};
 
 pub fn judge_site(told: Fields, last: u64) -> SiteJudged
     ensures { λ r. ⌜ OfTag S told (λ l. r ≡ siteJudged (refusal (beforeFirst last) l) l) ⌝ }

@@ -2,12 +2,12 @@ use mathlib.Core.Path.{_≡_}
 use borrow.Author.Needs.{needs}
 use Rattle.meaning.specs.Line.{S}
 use Rattle.meaning.specs.Refusals.{refusal}
 use Rattle.judge.specs.Before.{OfTag, beforeFirst}
 use Rattle.judge.specs.Order.{numberBy}
 use Rattle.judge.proofs.Judged.{site-refused, site-taken}
 use Rattle.judge.proofs.ByTag.{site-number, site-is}
-use Rattle.judge.proofs.ends.judge_site.Statement.{statement}
-use Rattle.judge.proofs.ends.judge_site.Tie as tie
+use Rattle.end_lines.proofs.ends.judge_site.Statement.{statement}
+use Rattle.end_lines.proofs.ends.judge_site.Tie as tie
 
 read-site-requires : tie.Need-read-site-requires
 read-site-requires c κs = search needs

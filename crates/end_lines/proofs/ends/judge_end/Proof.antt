@@ -1,8 +1,8 @@
 use borrow.Author.Needs.{needs}
 use Rattle.judge.specs.Answers.{endJudged}
 use Rattle.judge.proofs.ByTag.{end-number}
-use Rattle.judge.proofs.ends.judge_end.Statement.{statement}
-use Rattle.judge.proofs.ends.judge_end.Tie as tie
+use Rattle.end_lines.proofs.ends.judge_end.Statement.{statement}
+use Rattle.end_lines.proofs.ends.judge_end.Tie as tie
 
 read-count-requires : tie.Need-read-count-requires
 read-count-requires c κs = search needs

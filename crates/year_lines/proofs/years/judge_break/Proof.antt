@@ -3,12 +3,12 @@ use borrow.Author.Needs.{needs}
 use Rattle.calendar.specs.Spans.{historyYears}
 use Rattle.meaning.specs.Line.{B}
 use Rattle.meaning.specs.Refusals.{refusal}
 use Rattle.judge.specs.Before.{OfTag, beforeRising}
 use Rattle.judge.specs.Order.{numberBy}
 use Rattle.judge.proofs.Judged.{year-refused, year-taken}
 use Rattle.judge.proofs.ByTag.{break-number, break-year}
-use Rattle.judge.proofs.years.judge_break.Statement.{statement}
-use Rattle.judge.proofs.years.judge_break.Tie as tie
+use Rattle.year_lines.proofs.years.judge_break.Statement.{statement}
+use Rattle.year_lines.proofs.years.judge_break.Tie as tie
 
 read-year-requires : tie.Need-read-year-requires
 read-year-requires c κs = search needs
