@@ -189,7 +189,8 @@ def main():
     def cut(name,goal):
         nonlocal s,npar
         s.append('%s %s'%(name,' '.join(z[2] for z in bound))+')'*npar); body_=' '.join(z for z in s if z); s=[]; npar=0
-        lemmas.append((body_,name,' '.join('(%s : %s)'%z[:2] for z in bound),' '.join(z[0] for z in bound),' ∷ '.join(item(z) for z in x.l),goal))
+        assert x.l[-len(order):]==order
+        lemmas.append((body_,name,' '.join('(%s : %s)'%z[:2] for z in bound),' '.join(z[0] for z in bound),' ∷ '.join(item(z) for z in x.l[:-len(order)]),goal))
         bound[:]=[(z[0],z[1],z[0]) for z in bound]
     CALL='(runs C Λ En last-call (anyQ (Turned i)))'; SET='(settles En (place %d []) w (anyQ (Turned i)))'%sl
     s.append(test()); s.append('stays ! (%s) $\n       '%ld(tl)); now[tl]='(vbool true)'
@@ -198,6 +199,7 @@ def main():
         s.append('assigns ! (addr ! (from ! (fld ! refl (hop ! (look-in ! %d (sub ! 0 refl (whole !))) (stop !))))) (from ! (stop !)) (init ! %d refl (tt, tt)) $'%(x.i('_%d'%k),x.i('_%d'%ptr[p[0]])))
         s.append('assigns ! (agg ! (and-then ! (%s) (and-then ! (load ! (from ! (fld ! refl (stop !))) (look-in ! %d (sub ! 1 refl (whole !)))) (no-more !)))) (from ! (stop !)) (init ! %d refl (tt, (tt, (record { fits = %s .0 }, tt)))) $\n       '%(ld(ptr[p[0]]),x.i('_%d'%k),x.i('_%d'%lend[p[0]]),room(p[0])))
         now[ptr[p[0]]]='(vptr (%s .ptr .0) (%s .ptr .1))'%(p[0],p[0]); now[lend[p[0]]]=v(p[0])
+    local=' ∷ '.join(item(z) for z in order)
     cut('copies',CALL)
     for p in shrs:
         s.append(x.move(['o:'+p[0]])); s.append('use1 W (‵ %s ⊛ ‵ %s) (shr-slice-copy 𝓤 H A W (named %d) %s %s .twice %s (%s ∷ [])) $ split ! $\n       '%(own(p[0]),own(p[0]),lt[p[0]],kap(p[0]),elemR(p[2]),p[0],v(p[0])))
@@ -249,14 +251,17 @@ def main():
     s.append(x.keep(base))
     s.append('again ! Nearer At i (then i r w %s is e said %s) %s'%(' '.join(p[0]+'″' for p in muts),' '.join('l-'+p[0] for p in muts),D['nearer'])+')'*npar)
     texts=[z[0] for z in lemmas]+[' '.join(z for z in s if z)]
+    w('    -- the locals during the call: a lemma that looks at none of them takes them as one')
+    w('    unfoldable Locals : State → List (Item 𝓤)'); w('    Locals i = %s ∷ []'%local); w('')
     # the last lemma first: each is cited by the one before it
     for k in range(len(lemmas)-1,-1,-1):
         _,name,bd,bn,ctx_,goal=lemmas[k]
-        w('    %s : %s → Sq W (%s ∷ []) %s'%(name,bd,ctx_,goal)); 
-        if k==len(lemmas)-1: w('    unfolding afterTurn')
+        w('    %s : %s → Sq W (%s ∷ Locals i) %s'%(name,bd,ctx_,goal))
+        if name=='calls': w('    unfolding Locals')
+        if name=='lands': w('    unfolding Locals afterTurn')
         w('    %s %s =\n        %s'%(name,bn,texts[k+1])); w('')
     w('    more : (i : State) → i .state .%s ≡ true → Sq W (At i) (runs C Λ En pieces.turn-1 (anyQ (Turned i)))'%D['test'])
-    w('    more i e =\n        '+texts[0]); w('')
+    w('    unfolding Locals'); w('    more i e =\n        '+texts[0]); w('')
     # ---- the turn that leaves the loop
     x=Ctx(); x.l=list(base); s=[test(),'leaves-loop ! (%s) $ exec ! C Λ En pieces.t-3 (atRet En Post) $\n       '%ld(tl)]
     s.append('assigns ! (of-opd ! (%s)) (from ! (stop !)) (init ! %d refl (LL.lawful %s.the-type %s′.the-laws 𝓤 H A W .typed (i .state) _ (i .state-is) .0)) $ ret ! (look ! %d refl) $'%(ld(sl),x.i('_0'),S,S,x.i('_0')))

@@ -62,10 +62,6 @@ late-words al f h g = go (ltb al 2023) refl (rw (le-leb 6 f g) at h)
     go false e u = ltb-false al 2023 e
 
 -- ---- numbers of the tallies and the blocks
-none-or : {A : Type 0} (a b c : Bool) → (T a → A) → (T c → A) → T (a || (b && c)) → A
-none-or true b c f g t = f tt
-none-or false b c f g t = g (and-parts b c t .1)
-
 point-fits : (h : Years) (first : ℕ) (xs : List ℕ) → T (pointsFit h first xs) → (i : ℕ) → T (isPoint (getD xs i missingPoint))
 unfolding pointsFit pointFits isPoint
 point-fits h first xs t i =

@@ -16,7 +16,7 @@ use Rattle.lists.proofs.Turns.{set-tab}
 use Rattle.text.specs.Fields.{isStrange, upTo, past, tabAt, tabs, restAt, fieldAt, reads, edition}
 use Rattle.text.specs.Numbers.{isNumber, valueFrom, valueOf, most, numberedOf}
 use Rattle.text.specs.declared.Numbered.{Numbered}
-use Rattle.text.proofs.Laws.{tab-le, first-of, past-none, field-beyond}
+use Rattle.text.proofs.Laws.{first-of, past-none, field-beyond}
 use Rattle.meaning.specs.Line.{Line}
 use Rattle.meaning.specs.Refusals.{isIllegible}
 use Rattle.shapes.specs.Shapes.{aloneOf, shapeOf}

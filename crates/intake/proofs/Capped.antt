@@ -94,10 +94,6 @@ early-history al f = go (isKnown al f) refl
     go true e = omega (arith, history-bounds al f (rw e tt) .to)
     go false e = rw (no-history al f (rw e tt)) (omega arith)
 
-pub early-record : (s : Rec) → Early (historyOfRec s)
-unfolding historyOfRec historyOfSite
-early-record s = early-history (siteOfRec s .al) (siteOfRec s .filiere)
-
 -- ---- dates
 date-month-above : (y d m : ℕ) → most ≤ m → isDate y m d ≡ false
 unfolding isDate daysIn

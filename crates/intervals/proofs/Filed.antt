@@ -135,10 +135,6 @@ pub axis-row : (t : Site) (j : ℕ) → j < historyOfSite t .count → axisYears
 unfolding historyOfSite
 axis-row t j h = axis-bounds (t .al) (t .filiere) (has-history (t .al) (t .filiere) (λ z. omega arith)) .starts
 
-pub axis-rows : (t : Site) (j : ℕ) → j < historyOfSite t .count → axisYears (historyOfSite t) .count ≡ historyOfSite t .count + 2
-unfolding historyOfSite
-axis-rows t j h = axis-bounds (t .al) (t .filiere) (has-history (t .al) (t .filiere) (λ z. omega arith)) .length
-
 -- a number by year, at the j-th of a span
 pub by-year : (span : Years) (ns : List ℕ) (j : ℕ) → j < span .count → byYear span ns (span .first + j) ≡ getD ns j 0
 unfolding byYear

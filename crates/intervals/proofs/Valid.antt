@@ -151,13 +151,3 @@ module _ (t : Site) (n : ℕ) (k : Tallies) (e : Bool) (w : World) {ps xs ks : L
   unfolding indexValid validIndex
   index-valid-held =
       rw (broken-held, covered-by-ends (filingHeld t n k e w) ps xs ks n (historyOfSite t .first + j) (january j) rise in-axis in-row (intervals-held t n k e w cols), sound-held)
-
--- the same of a year of the history
-pub index-valid-year : (t : Site) (n : ℕ) (k : Tallies) (e : Bool) (w : World) {ps xs ks : List ℕ} → Columned w n ps xs ks → Rising ps n → T (readingsFit (axisYears (historyOfSite t)) (readingsOf w n))
-    → (y : ℕ) → T (among (historyOfSite t) y)
-    → indexValid (filingHeld t n k e w) y ≡ validIndex ps ks n (y - historyOfSite t .first) (isSet (k .breaks) (y - historyOfSite t .first))
-index-valid-year t n k e w {ps} {xs} {ks} cols rise fit y h =
-    let b = among-words (historyOfSite t) y .0 h in
-    let j = y - historyOfSite t .first in
-    subst (λ (z : ℕ). indexValid (filingHeld t n k e w) z ≡ validIndex ps ks n j (isSet (k .breaks) j)) (omega arith)
-    (index-valid-held t n k e w cols rise fit j (omega arith))

@@ -2,4 +2,3 @@ pub mod Chain
 pub mod Judged
 pub mod ByTag
 pub mod Records
-pub mod Told

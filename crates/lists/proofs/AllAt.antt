@@ -84,13 +84,6 @@ unfolding all
 all-made p [] h = refl
 all-made p (x ∷ xs) h = rw (is-true (p x) (h 0)) (all-made p xs (λ k. h (suc k)))
 
--- a test of every element, at any place of it
-pub all-at : {A : Type 0} (p : A → Bool) (xs : List A) → T (all p xs) → (k : ℕ) (d : A) → k < length xs → T (p (getD xs k d))
-unfolding all
-all-at p [] t k d h = absurd (not-suc-le-zero h)
-all-at p (x ∷ xs) t zero d h = and-parts (p x) (all p xs) t .0
-all-at p (x ∷ xs) t (suc k) d h = all-at p xs (and-parts (p x) (all p xs) t .1) k d (le-of-suc-le-suc h)
-
 -- where the default passes at every place, so does what is read past the end
 pub allAt-read : {A : Type 0} (p : ℕ → A → Bool) (xs : List A) (d : A) → T (allAt p 0 xs) → ((k : ℕ) → T (p k d)) → (k : ℕ) → T (p k (getD xs k d))
 allAt-read p xs d t u k = go (leb (length xs) k) refl
@@ -110,15 +103,6 @@ tab-on {A} n k f h = go (n - (k + 1)) (omega arith)
 pub tab-end : {A : Type 0} (n k : ℕ) (f : ℕ → A) → n ≤ k → tab (n - k) k f ≡ []
 unfolding tab
 tab-end n k f h = let e : n - k ≡ 0 = omega arith in rw e
-
--- ---- each two neighbours pass
-pub neighbours-at : {A : Type 0} (q : A × A → Bool) (xs : List A) → T (all q (neighbours xs)) → (k : ℕ) (d : A) → k + 1 < length xs → T (q (getD xs k d, getD xs (k + 1) d))
-unfolding neighbours all
-neighbours-at q [] t k d h = absurd (omega arith)
-neighbours-at q (x ∷ []) t k d h = absurd (omega arith)
-neighbours-at q (x ∷ y ∷ xs) t zero d h = and-parts (q (x, y)) (all q (neighbours (y ∷ xs))) t .0
-neighbours-at q (x ∷ y ∷ xs) t (suc k) d h =
-    rw (suc-add k 1) (neighbours-at q (y ∷ xs) (and-parts (q (x, y)) (all q (neighbours (y ∷ xs))) t .1) k d (omega arith))
 
 -- ---- a walk that stops at the first that does not pass
 pub and-false : (a : Bool) → (a && false) ≡ false

@@ -139,11 +139,6 @@ first-tab {A} p (suc n) i f = go (p (f i)) (first-tab p n (suc i) f)
     go true e = refl
     go false e = e
 
-pub first-same : (p q : ℕ → Bool) (n i : ℕ) → ((k : ℕ) → i ≤ k → k < i + n → p k ≡ q k) → firstOf p (range i n) ≡ firstOf q (range i n)
-unfolding firstOf tab range
-first-same p q zero i h = refl
-first-same p q (suc n) i h = rw (h i (omega arith) (omega arith), first-same p q n (suc i) (λ k a b. h k (omega arith) (omega arith)))
-
 first-later : (p : ℕ → Bool) (n i j : ℕ) → j < n → ((k : ℕ) → i ≤ k → k < i + j → p k ≡ false) → p (i + j) ≡ true → firstOf p (range i n) ≡ some (i + j)
 unfolding firstOf tab range
 first-later p zero i j h f e = absurd (not-suc-le-zero h)

@@ -24,11 +24,3 @@ unfolding any
 any-at p [] o k d h = absurd (not-suc-le-zero h)
 any-at p (x ∷ xs) o zero d h = or-parts (p x) (any p xs) o .0
 any-at p (x ∷ xs) o (suc k) d h = any-at p xs (or-parts (p x) (any p xs) o .1) k d (le-of-suc-le-suc h)
-
--- where no entry passes p, two tables are the same that agree at each place whose entry does not pass
-pub tab-where : {A B : Type 0} (p : A → Bool) (f : ℕ → A) (g h : ℕ → B) → ((k : ℕ) → p (f k) ≡ false → g k ≡ h k) → (n i : ℕ) → any p (tab n i f) ≡ false → tab n i g ≡ tab n i h
-unfolding any tab
-tab-where p f g h e zero i t = refl
-tab-where p f g h e (suc n) i t =
-    let o = or-parts (p (f i)) (any p (tab n (suc i) f)) t in
-    rw (e i (o .0), tab-where p f g h e n (suc i) (o .1))

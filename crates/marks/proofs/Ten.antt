@@ -25,9 +25,6 @@ module _ {A : Type 0} (z : A) (f : ℕ → A) where
   unfolding byHistory
   ten n = length-tab 10 0 (λ k. cond (ltb k n) (f k) z)
 
-  pub ten-of : (n : ℕ) (xs : List A) → xs ≡ byHistory n z f → length xs ≡ 10
-  ten-of n xs e = ap length e ∙ ten n
-
   pub one-more : (k : ℕ) (v : A) (xs : List A) → k < 10 → v ≡ f k → xs ≡ byHistory k z f → set xs k v ≡ byHistory (k + 1) z f
   unfolding byHistory
   one-more k v xs h e q =

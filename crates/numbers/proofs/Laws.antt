@@ -96,10 +96,6 @@ number-snoc (x ∷ f) d =
     go true true true true false true p q = refl
     go true true true true false false p q = refl
 
--- a test against a bound below n sees no difference
-pub leb-capped : (n v h : ℕ) → h < n → leb (min v n) h ≡ leb v h
-leb-capped n v h p = same (leb (min v n) h) (leb v h) (λ t. le→leb v h (omega (arith, leb→le (min v n) h t))) (λ t. le→leb (min v n) h (omega (arith, leb→le v h t)))
-
 pub ltb-capped : (n v h : ℕ) → h < n → ltb h (min v n) ≡ ltb h v
 ltb-capped n v h p = same (ltb h (min v n)) (ltb h v) (λ t. lt→ltb h v (omega (arith, ltb→lt h (min v n) t))) (λ t. lt→ltb h (min v n) (omega (arith, ltb→lt h v t)))
 

@@ -12,11 +12,6 @@ sets-snoc : (l : List ℕ) (i : ℕ) (vs : List ℕ) (v : ℕ) → sets l i (vs 
 sets-snoc l i [] v = ap (λ (k : ℕ). set l k v) (omega arith)
 sets-snoc l i (a ∷ vs) v = sets-snoc (set l i a) (suc i) vs v ∙ ap (λ (k : ℕ). set (sets (set l i a) (suc i) vs) k v) (omega arith)
 
-map-take : (f : ℕ → ℕ) (n : ℕ) (l : List ℕ) → map f (take n l) ≡ take n (map f l)
-map-take f zero l = refl
-map-take f (suc n) [] = refl
-map-take f (suc n) (x ∷ l) = ap (λ (r : List ℕ). f x ∷ r) (map-take f n l)
-
 map-at : (f : ℕ → ℕ) (l : List ℕ) (n : ℕ) → n < length l → getD (map f l) n 0 ≡ f (getD l n 0)
 map-at f [] n h = absurd (omega arith)
 map-at f (x ∷ l) zero h = refl

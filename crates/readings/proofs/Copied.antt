@@ -83,24 +83,3 @@ module _ (f : Reading → ℕ) (ys : List Reading) (n : ℕ) where
 pub copied-all : (f : Reading → ℕ) (ys : List Reading) → copied f ys (min (length ys) 600) (blank (f fresh)) ≡ map f (firstReadings ys)
 unfolding firstReadings blank
 copied-all f ys = copied-whole f ys 600
-
--- ---- an array of 600, copied one reading a turn
-any-default : (ys : List Reading) (i : ℕ) (d e : Reading) → i < length ys → getD ys i d ≡ getD ys i e
-any-default [] i d e l = absurd (not-suc-le-zero l)
-any-default (y ∷ ys) zero d e l = refl
-any-default (y ∷ ys) (suc i) d e l = any-default ys i d e (le-of-suc-le-suc l)
-
-pub copied-next : (f : Reading → ℕ) (ys : List Reading) (i : ℕ) (zs ws : List ℕ) (d : Reading) → i < length ys → ws ≡ copied f ys i zs → set ws i (f (getD ys i d)) ≡ copied f ys (i + 1) zs
-copied-next f ys i zs ws d l e = rw (add-one i, e, any-default ys i d fresh l)
-
-pub columns-copied : (ys : List Reading) (i : ℕ) (ps xs ks : List ℕ) → length ys ≡ 600 → i ≡ 600
-    → ps ≡ copied (λ r. r .position) ys i (blank 0) → xs ≡ copied (λ r. r .count) ys i (blank 0) → ks ≡ copied letter ys i (blank 69)
-    → record { positions = ps; indexes = xs; kinds = ks } ≡ columnsOf ys
-unfolding columnsOf positionsOf countsOf lettersOf
-columns-copied ys i ps xs ks e z a b c =
-    let m : i ≡ min (length ys) 600 = omega arith in
-    λ j. record {
-      positions = (a ∙ ap (λ (n : ℕ). copied (λ r. r .position) ys n (blank 0)) m ∙ copied-all (λ r. r .position) ys) j;
-      indexes = (b ∙ ap (λ (n : ℕ). copied (λ r. r .count) ys n (blank 0)) m ∙ copied-all (λ r. r .count) ys) j;
-      kinds = (c ∙ ap (λ (n : ℕ). copied letter ys n (blank 69)) m ∙ copied-all letter ys) j;
-    }

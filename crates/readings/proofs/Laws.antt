@@ -59,41 +59,9 @@ fresh-length true rs = length-replicate (length rs) fresh
 fresh-length false rs = refl
 
 -- ---- the columns after a store, and of fresh readings
-pub positions-put : (rs : List Reading) (i : ℕ) (r : Reading) → positionsOf (set rs i r) ≡ set (positionsOf rs) i (r .position)
-unfolding positionsOf
-positions-put rs i r = map-set (λ x. x .position) rs i r
-
-pub counts-put : (rs : List Reading) (i : ℕ) (r : Reading) → countsOf (set rs i r) ≡ set (countsOf rs) i (r .count)
-unfolding countsOf
-counts-put rs i r = map-set (λ x. x .count) rs i r
-
-pub letters-put : (rs : List Reading) (i : ℕ) (r : Reading) → lettersOf (set rs i r) ≡ set (lettersOf rs) i (letter r)
-unfolding lettersOf
-letters-put rs i r = map-set letter rs i r
-
-pub positions-fresh : (n : ℕ) → positionsOf (replicate n fresh) ≡ replicate n 0
-unfolding positionsOf
-positions-fresh n = map-replicate (λ x. x .position) n fresh
-
-pub counts-fresh : (n : ℕ) → countsOf (replicate n fresh) ≡ replicate n 0
-unfolding countsOf
-counts-fresh n = map-replicate (λ x. x .count) n fresh
-
-pub letters-fresh : (n : ℕ) → lettersOf (replicate n fresh) ≡ replicate n 69
-unfolding lettersOf
-letters-fresh n = map-replicate letter n fresh
-
-pub positions-length : (rs : List Reading) → length (positionsOf rs) ≡ length rs
-unfolding positionsOf
-positions-length rs = length-map rs (λ x. x .position)
-
 pub counts-length : (rs : List Reading) → length (countsOf rs) ≡ length rs
 unfolding countsOf
 counts-length rs = length-map rs (λ x. x .count)
-
-pub letters-length : (rs : List Reading) → length (lettersOf rs) ≡ length rs
-unfolding lettersOf
-letters-length rs = length-map rs letter
 
 -- ---- the columns of 600 readings are those of the whole list
 pub tab-all : {A : Type 0} (n : ℕ) (xs : List A) (d : A) → length xs ≡ n → tab n 0 (λ i. getD xs i d) ≡ xs

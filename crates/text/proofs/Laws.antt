@@ -16,7 +16,7 @@ use Rattle.lists.proofs.Reflect.{of-eq, of-and}
 use Rattle.text.specs.Fields.{isStrange, upTo, past, tabAt, tabs, restAt, fieldAt, reads}
 use Rattle.text.specs.Numbers.{isDigit, isNumber, valueOf, most, numberedOf}
 use Rattle.text.specs.declared.Numbered.{Numbered}
-pub use Rattle.numbers.proofs.Laws.{any-here, any-on, any-end, value-snoc, number-snoc, leb-capped, ltb-capped, eqb-capped, of-digit, of-number, of-dash}
+pub use Rattle.numbers.proofs.Laws.{any-here, any-on, any-end, value-snoc, number-snoc, ltb-capped, eqb-capped, of-digit, of-number, of-dash}
 
 -- ---- a walk: the first tab
 pub tab-here : (l : List ℕ) (i : ℕ) → i < length l → getD l i 0 ≡ 9 → tabAt (drop i l) ≡ 0
@@ -32,15 +32,6 @@ unfolding tabAt
 tab-end l i h = simp (drop-of-length-le l h)
 
 -- ---- the first field and what is past it, by the place of the first tab
-pub tab-le : (l : List ℕ) → tabAt l ≤ length l
-unfolding tabAt
-tab-le [] = omega arith
-tab-le (x ∷ l) = go (eqb x 9) (tab-le l)
-  where
-    go : (b : Bool) → tabAt l ≤ length l → cond b 0 (suc (tabAt l)) ≤ suc (length l)
-    go true e = omega arith
-    go false e = omega arith
-
 pub up-take : (l : List ℕ) → upTo l ≡ take (tabAt l) l
 unfolding upTo tabAt
 up-take [] = refl

@@ -10,7 +10,7 @@ use lib.ListN.{length, getD, replicate}
 use borrow.Author.Tests.{ltb-false, ne-eqb}
 use Rattle.lists.specs.Lists.{any, tab, orElse}
 use Rattle.lists.proofs.Laws.{length-tab}
-use Rattle.lists.proofs.Tabs.{or-parts, any-at, map-tab, tab-where}
+use Rattle.lists.proofs.Tabs.{or-parts, any-at, map-tab}
 use Rattle.calendar.specs.declared.Years.{Years}
 use Rattle.calendar.specs.Spans.{among}
 use Rattle.text.specs.Fields.{upTo, past, restAt, fieldAt}
@@ -95,28 +95,6 @@ exact-P h l y e o =
     let p = or-parts (not (among h (cappedAt l 1))) (any isProfileOutside (profileRow l)) (sym (outside-P h l y e) ∙ o) in
     (year-exact h l 1 (omega arith) (p .0), p .1)
 
-pub point-codes : (l : Line) → any isPointOutside (pointRow l) ≡ false → pointCodes l ≡ map storedPoint (pointRow l)
-unfolding pointCodes pointRow
-point-codes l o = sym (map-tab storedPoint 20 0 code ∙ tab-where isPointOutside code (λ h. storedPoint (code h)) (λ h. codeOfPoint (pointOf l h)) stored 20 0 o)
-  where
-    code : ℕ → ℕ
-    code h = cond (isDash (fieldAt l (4 + h))) dash (min (valueAt l h) most)
-
-    stored : (h : ℕ) → isPointOutside (code h) ≡ false → storedPoint (code h) ≡ codeOfPoint (pointOf l h)
-    stored h e = unfold storedPoint codeOfPoint pointOf isPointOutside in go (isDash (fieldAt l (4 + h))) (valueAt l h) e
-      where
-        go : (b : Bool) (v : ℕ) → (not (eqb (cond b dash (min v most)) dash) && ltb mostPower (cond b dash (min v most))) ≡ false
-            → cond (eqb (cond b dash (min v most)) dash) missingPoint (cond b dash (min v most)) ≡ orElse (cond b none (some v)) missingPoint
-        go true v e = refl
-        go false v e = rw (no-dash v) (above-exact mostPower v (omega arith) (rw (no-dash v) at e))
-
-pub profile-values : (l : Line) → any isProfileOutside (profileRow l) ≡ false → profileValues l ≡ profileRow l
-unfolding profileValues profileRow
-profile-values l o = sym (tab-where isProfileOutside (λ h. min (valueAt l h) most) (λ h. min (valueAt l h) most) (valueAt l) same-value 20 0 o)
-  where
-    same-value : (h : ℕ) → isProfileOutside (min (valueAt l h) most) ≡ false → min (valueAt l h) most ≡ valueAt l h
-    same-value h e = unfold isProfileOutside in above-exact mostProfile (valueAt l h) (omega arith) e
-
 -- ---- a value that is not outside fits its block: 32 bits for a point, 16 for a profile value
 pub point-fits : (vs : List ℕ) → any isPointOutside vs ≡ false → (k : ℕ) → k < length vs → storedPoint (getD vs k 0) ≤ missingPoint
 point-fits vs o k h = unfold storedPoint isPointOutside in go (getD vs k 0) (any-at isPointOutside vs o k 0 h)
@@ -127,9 +105,6 @@ point-fits vs o k h = unfold storedPoint isPointOutside in go (getD vs k 0) (any
         at : (b : Bool) → (not b && ltb mostPower v) ≡ false → cond b missingPoint v ≤ missingPoint
         at true e = omega arith
         at false e = let h : v ≤ mostPower = ltb-false mostPower v e in omega arith
-
-pub profile-fits : (vs : List ℕ) → any isProfileOutside vs ≡ false → (k : ℕ) → k < length vs → getD vs k 0 ≤ mostProfile
-profile-fits vs o k h = unfold isProfileOutside in ltb-false mostProfile (getD vs k 0) (any-at isProfileOutside vs o k 0 h)
 
 -- ---- how many there are
 pub point-count : (l : Line) → length (pointRow l) ≡ 20
