@@ -3,7 +3,7 @@ now=lambda z:'(%s .now)'%z
 held=lambda z:'(curve .now)' if z=='curve' else '(i .%s′)'%z
 D=dict(
   crate='given_lines', fn='give_lines', cwd='.',
-  comment='The invariant: the bytes left, fed to the run so far, give what the whole piece gives. All that the proof knows of `give` and `next_turn` is that each meets its contract.',
+  comment='The invariant: the bytes left, fed to the run so far, give what the whole piece gives. All that the proof knows of `give`, `has_line` and `next_turn` is that each meets its contract.',
   params=[('opened','value','O'),('piece','shr','u8'),('near','mut','u32'),('far','mut','u32'),('slots','mut','u16'),('daily','mut','u32'),('readings','mut','R'),('curve','shr','u64')],
   state='U', test='whole',
   types=dict(
@@ -13,6 +13,7 @@ D=dict(
   ),
   imports=['use Rattle.readings.specs.Readings.{seen}','use Rattle.readings.specs.Columns.{world}','use Rattle.turns.specs.Turns.{turnOf}','use Rattle.turn_lines.specs.Gives.{Gives}','use Rattle.given_lines.proofs.Again.{Lent, lends, returns}','use Rattle.given_lines.proofs.Rests.{rests}','use Rattle.turn_lines.proofs.Given.{Going, going-first, going-next, going-nearer, going-over}'],
   first=dict(fn='next_turn',al='next-turn',Name='NextTurn',mod='Rattle.turns.proofs.next_turn',key='#turns·next-turn',refs=['piece'],args=['opened','piece','0'],lits=['0'],fact='r ≡ turnOf opened (piece .now) 0'),
+  asks=dict(fn='has_line',al='has-line',Name='HasLine',mod='Rattle.turn_lines.proofs.has_line',key='#turn-lines·has-line'),
   call=dict(fn='give',al='give',Name='Give',mod='Rattle.giving.proofs.give',key='#giving·give'),
   # in the record: its own lists and the parameters'; in the walk: the state's
   inv=lambda s,l,p:'Going opened piece %s %s %s'%(world(p),s,world(lambda z:z if z=='curve' else l(z))),

@@ -1,22 +1,20 @@
 -- What the walk hands back is what document 01 says of the filing: 18, the points present, their sum and count, the curve and the level.
 use mathlib.Core.Path.{_≡_, refl, ap, sym, subst, _∙_}
-use mathlib.Core.Bool.{Bool, true, false, _&&_, _||_, not, cond}
+use mathlib.Core.Bool.{Bool, true, false, _&&_, not, cond}
 use mathlib.Core.List.{List, [], _∷_, _++_, map}
-use mathlib.Core.Option.{Option, some, none}
+use mathlib.Core.Option.{Option}
 use Prim.Native.Nat.{ℕ, zero, suc, _+_, _-_, _*_, _/_, _%_, _≤_, _<_}
-use native.Mathlib.Nat.{add-zero}
 use native.Mathlib.Omega.{arith}
 use lib.Dec.{T, eqb, ltb}
 use lib.ListN.{length, getD, length-map, List·getD-append}
 use lib.Seq.{getD-append-add}
 use borrow.Author.Tests.{lt-ltb, le-ltb, ltb-true, ltb-false, eqb-true, eqb-false}
-use Rattle.lists.specs.Lists.{any, tab, flat, present, sum, Each, each-nil, each-cons}
+use Rattle.lists.specs.Lists.{any, tab, flat, present, sum}
 use Rattle.lists.proofs.Laws.{any-each, or-split, is-false, length-tab, getD-tab0}
 use Rattle.lists.proofs.Tables.{tab-same}
 use Rattle.calendar.specs.Spans.{historyYears}
 use Rattle.note.specs.Peaks.{peakDays, peakCount}
 use Rattle.note.proofs.PeakDays.{days-length}
-use Rattle.rounding.specs.Points.{rounded, level}
 use Rattle.meaning.specs.Filing.{Site, Filing, historyOf}
 use Rattle.meaning.specs.Points.{Place, placeOf, sourceExceeds, pointAt, yearPlaces, allPlaces}
 use Rattle.meaning.specs.Level.{missingEntry, entryOf, pointsIn, presentIn, counted, coefficientOf, ncc, curveEntry, curveOf}

@@ -1,31 +1,28 @@
 -- The filing that a record and its blocks hold, by the lists that the walk is lent: the sources of its points.
-use mathlib.Core.Path.{_≡_, refl, ap, sym, subst, _∙_}
-use mathlib.Core.Bool.{Bool, true, false, _&&_, not, cond}
-use mathlib.Core.List.{List, [], _∷_, _++_, map}
-use mathlib.Core.Logic.{_⊎_, ⊎-elim}
+use mathlib.Core.Path.{_≡_, refl, ap, sym, _∙_}
+use mathlib.Core.Bool.{Bool, true, false, _&&_, cond}
+use mathlib.Core.List.{List, _∷_, map}
 use mathlib.Core.Option.{Option, some, none}
-use Prim.Native.Nat.{ℕ, zero, suc, _+_, _-_, _*_, _≤_, _<_}
-use native.Mathlib.Nat.{add-zero, add-suc, suc-add}
+use Prim.Native.Nat.{ℕ, zero, suc, _+_, _-_, _≤_, _<_}
+use native.Mathlib.Nat.{add-zero, add-suc}
 use native.Mathlib.Omega.{arith}
-use lib.Dec.{T, eqb, ltb}
+use lib.Dec.{T, ltb}
 use lib.ListN.{length, getD}
 use borrow.Author.Tests.{lt-ltb}
 use Rattle.lists.specs.Lists.{tab, range, present, sum, flat, Each, each-nil, each-cons}
 use Rattle.lists.proofs.Laws.{is-true, getD-tab0}
 use Rattle.lists.proofs.Tables.{tab-same}
-use Rattle.calendar.specs.Spans.{among, isKnown, historyYears, axisYears, historyLength}
-use Rattle.calendar.specs.Places.{hasWinterDate, dateOfWinter}
-use Rattle.calendar.proofs.Laws.{among-words, history-bounds, history-short, known-history, known-axis}
-use Rattle.note.specs.Peaks.{peakDays}
-use Rattle.note.specs.Coefficients.{caOf, theta}
+use Rattle.calendar.specs.Spans.{among, isKnown, historyYears, historyLength}
+use Rattle.calendar.specs.Places.{hasWinterDate}
+use Rattle.calendar.proofs.Laws.{among-words, history-short, known-history}
+use Rattle.note.specs.Coefficients.{caOf}
 use Rattle.note.proofs.PeakDays.{each-winter}
-use Rattle.meaning.specs.Filing.{Site, Filing, historyOf, axisOf, yearsIn, historyList}
-use Rattle.meaning.specs.Validity.{halfHours, curveValid, indexValid}
+use Rattle.meaning.specs.Filing.{Site, Filing, historyOf, yearsIn, historyList}
+use Rattle.meaning.specs.Validity.{curveValid, indexValid}
 use Rattle.meaning.specs.Cases.{Case, caseM, case1, case2, case3, case4, caseP, case5, case6, caseOf}
-use Rattle.meaning.specs.Points.{Origin, byProfile, Donor, Source, own, fromDefault, Place, placeOf, positionAt, intervalAt, profiledIn, profiledAt, readBy, readAt, donorOf, curveDonor, indexDonor, curveDonors, indexDonors, ownOf, rebuiltBy, historyCas, defaultAt, sourceBy, sourceAt, appliedRate, yearPlaces, allPlaces}
-use Rattle.meaning.specs.Blocks.{World, rowSize, slotAt, slotsStart, missingPoint, pointOfCode}
+use Rattle.meaning.specs.Points.{Origin, byProfile, Donor, own, Place, placeOf, intervalAt, profiledIn, profiledAt, readBy, readAt, donorOf, curveDonor, indexDonor, curveDonors, indexDonors, ownOf, historyCas, defaultAt, sourceBy, sourceAt, appliedRate, yearPlaces, allPlaces}
+use Rattle.meaning.specs.Blocks.{World, slotsStart}
 use Rattle.meaning.specs.Record.{Tallies, historyOfSite, profileHeld, byYear, rateOfCode, filingHeld}
-use Rattle.curves.specs.Rows.{rowOf}
 use Rattle.curves.proofs.Filings.{point-is}
 use Rattle.own_points.specs.declared.Basis.{Basis}
 use Rattle.cases.specs.Cases.{isSet, meantCase, caseOfCode}

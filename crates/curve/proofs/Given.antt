@@ -1,22 +1,21 @@
 -- What the walk is given: positions, points that fit, and the cases by the marks.
-use mathlib.Core.Path.{_≡_, refl, ap, sym, subst, _∙_}
-use mathlib.Core.Bool.{Bool, true, false, _||_, cond}
+use mathlib.Core.Path.{_≡_, refl, ap, sym, _∙_}
+use mathlib.Core.Bool.{Bool, true, false, cond}
 use mathlib.Core.List.{List, [], map}
-use Prim.Native.Nat.{ℕ, _+_, _-_, _*_, _≤_, _<_}
+use Prim.Native.Nat.{ℕ, _+_, _-_, _≤_, _<_}
 use native.Mathlib.Omega.{arith}
-use lib.Dec.{T, eqb, leb, ltb}
+use lib.Dec.{T, ltb}
 use lib.ListN.{length, getD, take, drop, length-take, List·getD-eq-default}
 use lib.Seq.{getD-take, getD-drop}
 use borrow.Author.Tests.{ltb-true, ltb-false, lt-ltb}
-use Rattle.lists.specs.Lists.{tab, any}
+use Rattle.lists.specs.Lists.{tab}
 use Rattle.lists.proofs.Laws.{getD-tab0}
 use Rattle.lists.proofs.Tables.{tab-same}
 use Rattle.calendar.specs.Spans.{isKnown, historyYears, axisYears}
-use Rattle.calendar.specs.Places.{dateOfWinter}
 use Rattle.calendar.proofs.Laws.{known-axis, history-bounds, history-short}
 use Rattle.meaning.specs.Filing.{Filing, Meter, noMeter, curveMeter, indexMeter, historyOf, axisOf, yearsIn, historyList}
 use Rattle.meaning.specs.Validity.{curveValid, indexValid}
-use Rattle.meaning.specs.Cases.{Case, caseM, case1, case2, case3, case4, caseP, case5, case6, Mark, mark, curveCase, indexCase, caseBy, markOf, marksOf, caseOf}
+use Rattle.meaning.specs.Cases.{Case, caseM, case1, case2, case3, case4, caseP, case5, case6, Mark, mark, caseBy, markOf, marksOf, caseOf}
 use Rattle.meaning.specs.Points.{positionAt}
 use Rattle.meaning.specs.Blocks.{missingPoint, rowSize, isNear, nearStart, farStart}
 use Rattle.curves.specs.Rows.{holdsYear, part, rowOf}

@@ -1,14 +1,12 @@
 -- The answer for a peak day that the year has.
-use mathlib.Core.Path.{_≡_, refl, ap, sym, _∙_}
-use mathlib.Core.Bool.{Bool, true, false}
+use mathlib.Core.Path.{_≡_}
 use Prim.Native.Nat.{ℕ, _<_}
 use native.Mathlib.Omega.{arith}
 use lib.Dec.{ltb}
 use lib.ListN.{getD}
 use borrow.Author.Tests.{lt-ltb}
 use Rattle.note.specs.Peaks.{peakCount, peakDays}
-use Rattle.note.specs.Answers.{pickDay, peakDay}
-use Rattle.note.specs.declared.peaks.PeakDay.{PeakDay}
+use Rattle.note.specs.Answers.{peakDay}
 use Rattle.note.specs.declared.peaks.PeakDay.the-variants.{Place, Nothing}
 
 day-is : (y k : ℕ) → k < peakCount y → peakDay y k ≡ Place (getD (peakDays y) k 0)

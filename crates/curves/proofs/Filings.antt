@@ -1,23 +1,22 @@
 -- The curve years of a filing that blocks hold, in terms of its rows.
 use mathlib.Core.Path.{_≡_, refl, ap, sym, _∙_}
 use mathlib.Core.Bool.{Bool, true, false, _&&_, not, cond}
-use mathlib.Core.List.{List, [], _∷_, map}
-use mathlib.Core.Option.{Option, some, none}
-use Prim.Native.Nat.{ℕ, zero, suc, _+_, _-_, _*_, _≤_, _<_}
+use mathlib.Core.List.{List, map}
+use mathlib.Core.Option.{some, none}
+use Prim.Native.Nat.{ℕ, zero, suc, _+_, _-_, _*_, _<_}
 use native.Mathlib.Omega.{arith}
 use lib.Dec.{T, eqb, leb, ltb}
-use lib.ListN.{length, getD, take, drop}
+use lib.ListN.{getD, take, drop}
 use lib.Seq.{getD-take, getD-drop}
 use borrow.Author.Tests.{lt-ltb, le-leb}
 use Rattle.lists.specs.Lists.{sum, count, range, tab, isSome, Each, each-nil, each-cons}
 use Rattle.lists.proofs.Laws.{is-true}
 use Rattle.calendar.specs.Spans.{among, historyYears}
 use Rattle.calendar.proofs.Laws.{among-words, known-parts, history-bounds, history-short}
-use Rattle.note.specs.Peaks.{peakDays, peakCount}
 use Rattle.note.proofs.PeakDays.{each-winter}
 use Rattle.note.proofs.History.{known}
-use Rattle.meaning.specs.Filing.{Site, Filing}
-use Rattle.meaning.specs.Validity.{halfHours, presentPoints, expectedPoints, enough, curveValid}
+use Rattle.meaning.specs.Filing.{Site}
+use Rattle.meaning.specs.Validity.{presentPoints, expectedPoints, enough, curveValid}
 use Rattle.meaning.specs.Blocks.{World, missingPoint, rowSize, isNear, nearStart, farStart, slotAt, codeAt, pointOfCode}
 use Rattle.meaning.specs.Record.{Tallies, historyOfSite, pointHeld, filingHeld}
 use Rattle.curves.specs.Rows.{holdsYear, part, rowOf}

@@ -1,11 +1,11 @@
 -- Availability of a year's peak points in a row, and the curve year's validity (document 01, Validity).
 use mathlib.Core.Bool.{Bool, _&&_, not}
 use mathlib.Core.List.{List, map}
-use Prim.Native.Nat.{ℕ, _*_}
+use Prim.Native.Nat.{ℕ}
 use lib.Dec.{eqb}
 use lib.ListN.{getD}
 use Rattle.lists.specs.Lists.{sum, count, range}
-use Rattle.note.specs.Peaks.{peakDays, peakCount}
+use Rattle.note.specs.Peaks.{peakDays}
 use Rattle.meaning.specs.Blocks.{missingPoint, slotAt}
 use Rattle.meaning.specs.Validity.{halfHours, expectedPoints, enough}
 use Rattle.curves.specs.declared.Counts.{Counts}

@@ -1,11 +1,10 @@
 -- What the answer of a judge tells of a line with a date: C, P, D and X.
-use mathlib.Core.Path.{_≡_, refl, ap, sym, _∙_}
-use mathlib.Core.Option.{Option, some, none}
-use Prim.Native.Nat.{ℕ}
+use mathlib.Core.Path.{_≡_, refl}
+use mathlib.Core.Option.{none}
 use Rattle.calendar.specs.declared.Years.{Years}
 use Rattle.calendar.specs.Spans.{historyYears, axisYears}
 use Rattle.text.specs.Fields.{fieldAt}
-use Rattle.meaning.specs.Line.{Line, C, X, D, P, tagOf, yearOn, numberAt, winterOn, kindOf, keyOf}
+use Rattle.meaning.specs.Line.{Line, C, X, D, P, yearOn, numberAt, winterOn, kindOf, keyOf}
 use Rattle.meaning.specs.Refusals.{refusal}
 use Rattle.meaning.specs.Blocks.{letterOfKind}
 use Rattle.meaning.specs.Record.{Rec, axisOfRec, beforeOf}

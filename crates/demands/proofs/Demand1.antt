@@ -1,10 +1,10 @@
 -- Demand 1: every call answers with a level, an acceptance or a number of document 01, and a refusal leaves every lent list.
 use mathlib.Core.Path.{_≡_, refl}
-use mathlib.Core.Logic.{_⊎_, inl, inr}
+use mathlib.Core.Logic.{inl, inr}
 use mathlib.Core.Bool.{Bool, true, false, _&&_, cond}
 use mathlib.Core.List.{List, [], _∷_}
 use mathlib.Core.Option.{Option, some, none}
-use Prim.Native.Nat.{ℕ, _≤_}
+use Prim.Native.Nat.{_≤_}
 use native.Mathlib.Omega.{arith}
 use lib.Dec.{eqb}
 use Rattle.meaning.specs.Line.{Line}
@@ -13,7 +13,7 @@ use Rattle.meaning.specs.Closing.{Lack, unended, partial, lacking, zeroTotal, t
 use Rattle.meaning.specs.Blocks.{World, sizesFit, freshWorld}
 use Rattle.meaning.specs.Record.{Rec, freshRec, recFits, contentsFit, beforeOf, filingOf}
 use Rattle.meaning.specs.Calls.{Answer, took, refused, reports, Out, out, leaves, openingOf, judged, lineOf, closed, closeOf}
-use Rattle.meaning.specs.Sheet.{Sheet, stopped, level, Outcome}
+use Rattle.meaning.specs.Sheet.{Outcome}
 use Rattle.demands.specs.CallLists.{Call, opening, line, close, called, sheetOfAnswer, outcomeOfOut, onwardBy, onward, runFrom, run}
 use Rattle.demands.specs.Demands.{Number, Unchanged, Answers, Ends, Demand-1}
 

@@ -1,6 +1,6 @@
 -- Demand 2: whatever record and blocks held, a run's sheet and curve are those of the lines.
-use mathlib.Core.Path.{_≡_, refl, ap, sym, _∙_}
-use mathlib.Core.Bool.{Bool, true, false, _&&_, cond}
+use mathlib.Core.Path.{_≡_, refl, ap}
+use mathlib.Core.Bool.{true, false}
 use mathlib.Core.List.{List, [], _∷_, _++_}
 use mathlib.Core.Option.{Option, some, none}
 use Prim.Native.Nat.{ℕ, _+_}
@@ -9,21 +9,21 @@ use borrow.Author.Tests.{eq-eqb}
 use lib.ListN.{length}
 use Rattle.lists.proofs.Laws.{is-true}
 use Rattle.meaning.specs.Filing.{Filing}
-use Rattle.meaning.specs.Line.{Line, tagOf}
+use Rattle.meaning.specs.Line.{Line}
 use Rattle.meaning.specs.Refusals.{Reason, numberOf}
 use Rattle.meaning.specs.File.{refusalAt, filingIn}
 use Rattle.meaning.specs.Level.{reportOf}
 use Rattle.meaning.specs.Closing.{Lack, lackNumber, closingRefusal}
 use Rattle.meaning.specs.Blocks.{World, sizesFit, freshWorld}
-use Rattle.meaning.specs.Record.{Rec, freshRec, recFits, contentsFit, filingOf}
-use Rattle.meaning.specs.Calls.{Answer, took, refused, reports, Out, leaves, openingOf, judged, lineOf, closed, closeOf}
-use Rattle.meaning.specs.Sheet.{Sheet, stopped, level, Outcome, stoppedAt, closingBy, closingOf, outcomeBy, outcomeFrom, outcomeOf}
+use Rattle.meaning.specs.Record.{Rec, freshRec}
+use Rattle.meaning.specs.Calls.{Answer, took, Out, openingOf, judged, lineOf, closed, closeOf}
+use Rattle.meaning.specs.Sheet.{stopped, level, stoppedAt, closingBy, closingOf, outcomeBy, outcomeFrom, outcomeOf}
 use Rattle.demands.specs.CallLists.{called, sheetOfAnswer, outcomeOfOut, onwardBy, onward, runFrom, run}
 use Rattle.demands.specs.Demands.{Demand-2}
 use Rattle.demands.proofs.Held.Parts.{HeldRec, HeldWorld}
 use Rattle.demands.proofs.Held.Rec.{rec-fresh, rec-step, held-count, held-refusal}
 use Rattle.demands.proofs.Held.Start.{world-fresh}
-use Rattle.demands.proofs.Held.World.{world-step, world-is, line-ready, close-ready, curve-refused, curve-closed}
+use Rattle.demands.proofs.Held.World.{world-step, world-is, line-ready, close-ready, curve-closed}
 
 -- record and blocks hold a file
 pub record Held (ls : List Line) (s : Rec) (w : World) : Type 0 where

@@ -1,27 +1,23 @@
 -- Demand 3: every NCC that a close of a list of calls reports lies within the bound of its file's exact fraction.
-use mathlib.Core.Path.{_≡_, refl, ap, sym, _∙_}
+use mathlib.Core.Path.{_≡_, refl}
 use mathlib.Core.Bool.{Bool, true, false, _&&_, cond}
-use mathlib.Core.List.{List, [], _∷_, _++_}
+use mathlib.Core.List.{List, [], _∷_}
 use mathlib.Core.Option.{Option, some, none}
 use Prim.Native.Nat.{ℕ, _+_}
 use native.Mathlib.Omega.{arith}
 use lib.Dec.{T, eqb}
 use borrow.Author.Tests.{ne-eqb}
 use Rattle.lists.specs.Lists.{Each, each-nil, each-cons}
-use Rattle.lists.proofs.Laws.{is-true}
-use Rattle.meaning.specs.Filing.{Filing}
 use Rattle.meaning.specs.Line.{Line}
-use Rattle.meaning.specs.Refusals.{Reason, numberOf}
+use Rattle.meaning.specs.Refusals.{Reason}
 use Rattle.meaning.specs.File.{refusalAt, filingIn}
-use Rattle.meaning.specs.Level.{reportOf}
 use Rattle.meaning.specs.Closing.{Lack, closingRefusal}
 use Rattle.meaning.specs.Blocks.{World, sizesFit, freshWorld}
 use Rattle.meaning.specs.Record.{Rec, freshRec, inState, recFits, contentsFit, filingOf}
-use Rattle.meaning.specs.Calls.{Answer, took, refused, reports, Out, out, leaves, openingOf, judged, lineOf, closed, closeOf}
+use Rattle.meaning.specs.Calls.{Answer, took, refused, Out, out, leaves, openingOf, judged, lineOf, closed, closeOf}
 use Rattle.demands.specs.CallLists.{Call, opening, line, close, called, fileAfter, Answered, answersFrom, answersOf}
 use Rattle.demands.specs.Demands.{Bounded, BoundedIfReported, Demand-3}
 use Rattle.demands.proofs.Bound.Theorem.{bounded-report}
-use Rattle.demands.proofs.Held.Parts.{HeldRec, HeldWorld}
 use Rattle.demands.proofs.Held.Rec.{rec-step}
 use Rattle.demands.proofs.Held.World.{world-step, world-is}
 use Rattle.demands.proofs.Demand2.{Held, held-fresh, line-is, close-is}

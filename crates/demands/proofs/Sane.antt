@@ -1,32 +1,30 @@
 -- The filing of accepted lines that end in E has what the bound rests on.
-use mathlib.Core.Path.{_≡_, refl, ap, sym, _∙_}
+use mathlib.Core.Path.{_≡_, refl, ap, _∙_}
 use mathlib.Core.Bool.{Bool, true, false, not, _&&_, _||_, cond}
 use mathlib.Core.List.{List, [], _∷_}
-use mathlib.Core.Option.{Option, some, none}
-use Prim.Native.Nat.{ℕ, _-_, _*_, _≤_, _<_}
+use mathlib.Core.Option.{some, none}
+use Prim.Native.Nat.{ℕ, _-_, _≤_}
 use native.Mathlib.Omega.{arith}
-use lib.Dec.{T, eqb, leb, ltb, leb→le}
+use lib.Dec.{T, eqb, leb, ltb}
 use lib.ListN.{length, getD}
-use borrow.Author.Tests.{le-leb, lt-ltb, leb-true, eqb-true}
-use Rattle.lists.specs.Lists.{any, firstOf, Each, each-cons}
+use borrow.Author.Tests.{le-leb}
+use Rattle.lists.specs.Lists.{any, Each, each-cons}
 use Rattle.lists.proofs.Laws.{first-none, is-true}
 use Rattle.calendar.specs.declared.Years.{Years}
-use Rattle.calendar.specs.Spans.{among, isKnown, historyYears}
+use Rattle.calendar.specs.Spans.{among, isKnown}
 use Rattle.calendar.proofs.Laws.{among-words, history-short}
-use Rattle.note.specs.Coefficients.{caOf}
 use Rattle.note.proofs.History.{known, ca-not-zero, ca-twofold}
-use Rattle.meaning.specs.Filing.{Site, Filing, historyOf}
+use Rattle.meaning.specs.Filing.{Filing, historyOf}
 use Rattle.meaning.specs.Line.{Line}
 use Rattle.meaning.specs.Refusals.{isTooSoon}
-use Rattle.meaning.specs.File.{siteIn, historyIn, endedIn, rateIn, filingIn}
+use Rattle.meaning.specs.File.{siteIn, historyIn, endedIn, filingIn}
 use Rattle.meaning.specs.Closing.{Lack, unended, partial, lacking, zeroTotal, tooHigh, lacks, lackOrder, closingRefusal}
 use Rattle.meaning.specs.Blocks.{World}
-use Rattle.meaning.specs.Record.{Rec, isTaken, siteOfRec, historyOfSite, historyOfRec, isWithin, byYear, rateOfCode, filingHeld, filingOf}
+use Rattle.meaning.specs.Record.{Rec, isTaken, historyOfRec, isWithin, byYear, rateOfCode, filingHeld, filingOf}
 use Rattle.meaning.proofs.Accepted.{between}
 use Rattle.demands.proofs.Bound.Sane.{Sane}
-use Rattle.demands.proofs.Held.Parts.{HeldRec, HeldWorld, Shaped}
+use Rattle.demands.proofs.Held.Parts.{HeldRec, HeldWorld}
 use Rattle.demands.proofs.Held.Ranges.{each-year-at}
-use Rattle.demands.proofs.Held.Fits.{Kept}
 use Rattle.demands.proofs.Held.Rec.{held-history, held-kept}
 use Rattle.demands.proofs.Held.Follows.{held-taken, held-known, held-timely}
 

@@ -1,21 +1,19 @@
 -- A close that reports counts some point, whatever record and blocks it was given (document 01: the count is never 0).
-use mathlib.Core.Path.{_≡_, refl, ap, sym, _∙_}
-use mathlib.Core.Bool.{Bool, true, false, not, _&&_, _||_, cond}
+use mathlib.Core.Path.{_≡_, refl, ap}
+use mathlib.Core.Bool.{Bool, true, false, not, _&&_, cond}
 use mathlib.Core.Option.{Option, some, none}
 use Prim.Native.Nat.{ℕ, _<_}
 use native.Mathlib.Omega.{arith}
 use lib.Dec.{T, eqb, leb}
-use borrow.Author.Tests.{eqb-true}
-use Rattle.lists.proofs.Laws.{is-true}
 use Rattle.calendar.specs.Spans.{isKnown}
 use Rattle.calendar.proofs.Tables.{and-both}
 use Rattle.meaning.specs.Filing.{Site, Filing}
 use Rattle.meaning.specs.Refusals.{isTooSoon}
-use Rattle.meaning.specs.Level.{Report, counted, reportOf}
+use Rattle.meaning.specs.Level.{Report, reportOf}
 use Rattle.meaning.specs.Closing.{Lack, closingRefusal}
 use Rattle.meaning.specs.Blocks.{World, sizesFit}
 use Rattle.meaning.specs.Record.{Rec, isTaken, siteOfRec, isWithin, siteFits, recFits, contentsFit, filingHeld, filingOf}
-use Rattle.meaning.specs.Calls.{Answer, took, refused, reports, Out, leaves, closed, closeOf}
+use Rattle.meaning.specs.Calls.{reports, leaves, closed, closeOf}
 use Rattle.meaning.proofs.Accepted.{both}
 use Rattle.demands.proofs.Bound.Counted.{some-point}
 use Rattle.demands.proofs.Sane.{ended}

@@ -2,7 +2,6 @@
 -- (document 01, What demand 3 compares).
 use mathlib.Core.List.{List, [], _∷_, _++_}
 use Rattle.meaning.specs.Line.{Line}
-use Rattle.meaning.specs.Level.{Report}
 use Rattle.meaning.specs.Blocks.{World}
 use Rattle.meaning.specs.Record.{Rec}
 use Rattle.meaning.specs.Calls.{Answer, took, refused, reports, Out, openingOf, lineOf, closeOf}

@@ -1,7 +1,7 @@
 -- The three demands, each one statement.
 use mathlib.Core.Path.{_≡_}
 use mathlib.Core.Logic.{_⊎_}
-use mathlib.Core.List.{List, [], _∷_}
+use mathlib.Core.List.{List}
 use Prim.Native.Nat.{ℕ, _+_, _*_, _≤_, _<_}
 use lib.Dec.{T}
 use Rattle.lists.specs.Lists.{Each}
@@ -13,7 +13,7 @@ use Rattle.meaning.specs.Level.{Report, lowestRate}
 use Rattle.demands.specs.Exact.{exactFraction}
 use Rattle.meaning.specs.Blocks.{World, sizesFit}
 use Rattle.meaning.specs.Record.{Rec}
-use Rattle.meaning.specs.Calls.{Answer, took, refused, reports, Out, openingOf, lineOf, closeOf}
+use Rattle.meaning.specs.Calls.{Answer, took, refused, reports, Out, openingOf}
 use Rattle.meaning.specs.Sheet.{Sheet, stopped, level, outcomeOf}
 use Rattle.demands.specs.CallLists.{Call, opening, line, close, called, Answered, answersOf, run}
 

@@ -1,12 +1,12 @@
 -- The exact fraction in mW: the same chain with no rounding anywhere (document 01, What demand 3 compares).
-use mathlib.Core.List.{List, [], _∷_, map, foldr}
+use mathlib.Core.List.{List, map, foldr}
 use mathlib.Core.Option.{Option, some, none}
 use Prim.Native.Nat.{ℕ, _+_, _*_}
 use lib.ListN.{length}
 use Rattle.lists.specs.Lists.{present}
 use Rattle.rounding.specs.Points.{Fraction, over, byDefault}
 use Rattle.meaning.specs.Filing.{Filing}
-use Rattle.meaning.specs.Points.{Origin, fractionOf, Donor, donorCas, Source, missing, own, fromDonors, fromDefault, Place, allPlaces}
+use Rattle.meaning.specs.Points.{fractionOf, Donor, donorCas, Source, missing, own, fromDonors, fromDefault, Place, allPlaces}
 use Rattle.meaning.specs.Level.{coefficientOf}
 
 -- ---- fractions: sum, product with and quotient by a number

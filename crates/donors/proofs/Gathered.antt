@@ -3,17 +3,17 @@ use mathlib.Core.Path.{_≡_, refl, ap, sym, _∙_}
 use mathlib.Core.Bool.{Bool, true, false, _||_, cond}
 use mathlib.Core.List.{List, [], _∷_}
 use mathlib.Core.Option.{Option, some, none}
-use Prim.Native.Nat.{ℕ, _+_, _-_, _*_, _≤_, _<_}
+use Prim.Native.Nat.{ℕ, _+_, _-_, _≤_, _<_}
 use native.Mathlib.Nat.{add-zero, zero-add, add-assoc}
 use native.Mathlib.Omega.{arith}
 use lib.Dec.{eqb}
 use lib.ListN.{getD}
 use borrow.Author.Tests.{ne-eqb}
-use Rattle.lists.specs.Lists.{any, tab, present, sum, Each, each-nil, each-cons}
+use Rattle.lists.specs.Lists.{any, tab, present, sum, Each, each-cons}
 use Rattle.lists.proofs.Turns.{tab-on, tab-end}
 use Rattle.lists.proofs.Sums.{Held, each-tab, each-present}
-use Rattle.rounding.specs.Answers.{mW, pointOf}
-use Rattle.rounding.specs.Points.{mostPoint, rounded, rebuilt, exceeds}
+use Rattle.rounding.specs.Answers.{pointOf}
+use Rattle.rounding.specs.Points.{rounded, rebuilt, exceeds}
 use Rattle.meaning.specs.Points.{Origin, Donor, own, ownOf, meant, sourceExceeds, originExceeds, roundedOrigin, donorPoints, donorCas, rebuiltBy}
 use Rattle.own_points.specs.declared.Filled.{Filled}
 use Rattle.own_points.specs.Filled.{filledWhere, filledOf, filledBy}

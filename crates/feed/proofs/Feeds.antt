@@ -5,7 +5,7 @@ use mathlib.Core.List.{List, [], _∷_, _++_}
 use Prim.Native.Nat.{ℕ, _+_, _-_, _≤_, _<_, min}
 use native.Mathlib.Omega.{arith}
 use lib.Dec.{eqb, ltb}
-use lib.ListN.{length, take, drop, length-append, length-take, length-drop, drop-of-length-le, take-append-drop}
+use lib.ListN.{length, take, drop, length-append, length-take, drop-of-length-le, take-append-drop}
 use lib.Seq.{take-all}
 use borrow.Author.Tests.{ltb-true, ltb-false}
 use Rattle.digits.specs.Written.{written}

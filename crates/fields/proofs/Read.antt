@@ -1,6 +1,6 @@
 -- Laws of what is told of a line: whether it is legible, and of a legible line the shape and the number of each field.
 use mathlib.Core.Path.{_≡_, refl, ap, _∙_}
-use mathlib.Core.Bool.{Bool, true, false, cond}
+use mathlib.Core.Bool.{Bool, true, false}
 use Prim.Native.Nat.{ℕ, _+_, _<_, min}
 use native.Mathlib.Omega.{arith}
 use lib.ListN.{getD}
@@ -10,7 +10,7 @@ use Rattle.text.specs.Numbers.{valueOf, most}
 use Rattle.meaning.specs.Line.{Line}
 use Rattle.meaning.specs.Refusals.{isIllegible}
 use Rattle.shapes.specs.Shapes.{shapeOf}
-use Rattle.fields.specs.Fields.{noFields, shapesOf, valuesOf, fieldsOf, Tells}
+use Rattle.fields.specs.Fields.{shapesOf, valuesOf, fieldsOf, Tells}
 use Rattle.fields.specs.declared.Fields.{Fields}
 
 abbrev whole : Line → Fields

@@ -1,20 +1,19 @@
 -- Laws of the pass over a line's fields: what is told of the first k of them, and what is left of the line.
 use mathlib.Core.Path.{_≡_, refl, ap, sym, _∙_}
 use mathlib.Core.Logic.{_⊎_, inl, inr, ⊎-elim}
-use mathlib.Core.Bool.{Bool, true, false, not, _&&_, _||_, cond}
+use mathlib.Core.Bool.{Bool, true, false, _||_, cond}
 use mathlib.Core.List.{List, [], _∷_}
 use Prim.Native.Nat.{ℕ, zero, suc, _+_, _≤_, _<_, min}
 use native.Mathlib.Omega.{arith}
 use native.Mathlib.Numerals.{add-one}
 use lib.Dec.{eqb, ltb}
 use lib.ListN.{length, take, set, replicate}
-use borrow.Author.Tests.{eq-eqb, ne-eqb, eqb-true, lt-ltb, le-ltb, ltb-true, ltb-false}
+use borrow.Author.Tests.{eq-eqb, ne-eqb, lt-ltb, le-ltb, ltb-true, ltb-false}
 use Rattle.lists.specs.Lists.{tab, any}
-use Rattle.lists.proofs.Laws.{length-tab}
 use Rattle.lists.proofs.Tables.{tab-same}
 use Rattle.lists.proofs.Turns.{set-tab}
 use Rattle.text.specs.Fields.{isStrange, upTo, past, tabAt, tabs, restAt, fieldAt, reads, edition}
-use Rattle.text.specs.Numbers.{isNumber, valueFrom, valueOf, most, numberedOf}
+use Rattle.text.specs.Numbers.{valueFrom, valueOf, most, numberedOf}
 use Rattle.text.specs.declared.Numbered.{Numbered}
 use Rattle.text.proofs.Laws.{first-of, past-none, field-beyond}
 use Rattle.meaning.specs.Line.{Line}

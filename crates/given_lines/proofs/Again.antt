@@ -2,7 +2,7 @@
 --     Lent             what the holder keeps meanwhile, under the name γ₁ of the slice lent: the lender's part at κ′, and its own borrow at κ, open, with both halves of its ghost variable
 --     lends            own (the `&κ mut [T]` at ys) ∗ [κ]_q  ⊢ ⇛ ∃ γ₁. own (the `&κ′ mut [T]` at ys, under γ₁) ∗ Lent γ₁
 --     returns          [†κ′] ∗ Lent γ₁ ∗ finally γ₁ zs  ⊢ ⇛ (own (the `&κ mut [T]` at zs) ∗ [κ]_q)
-use mathlib.Core.Path.{_≡_, sym, ap, _∙_, subst}
+use mathlib.Core.Path.{_≡_, sym, ap, subst}
 use Prim.Native.Nat.{ℕ}
 use mathlib.Core.List.{List, [], _∷_}
 use lib.ListN.{length}

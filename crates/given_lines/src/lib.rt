@@ -2,6 +2,7 @@
 use giving::give;
 use readings::Reading;
 use site::Opened;
+use turn_lines::has_line;
 use turns::Turn;
 use turns::next_turn;
 ghost use mathlib.Core.Path.{_≡_};
@@ -26,7 +27,7 @@ pub fn give_lines(
     ensures { λ r. ⌜ turnView r (now (piece .entry)) (world (now (near .exit)) (now (far .exit)) (now (slots .exit)) (now (daily .exit)) (seen (now (readings .exit))) (now (curve .entry))) ≡ fed (runOf (handsBack opened (world (now (near .entry)) (now (far .entry)) (now (slots .entry)) (now (daily .entry)) (seen (now (readings .entry))) (now (curve .entry)))) []) (now (piece .entry)) ⌝ }
 {
     let mut turn = next_turn(opened, piece, 0);
-    while turn.whole {
+    while has_line(turn) {
         turn = give(turn, piece, near, far, slots, daily, readings, curve);
     }
     turn

@@ -1,5 +1,5 @@
 -- What a line comes to, for every list of readings and every curve of the lengths told: 1, 13, or the step.
-use mathlib.Core.Path.{_≡_, refl, ap, sym, subst, _∙_}
+use mathlib.Core.Path.{_≡_, refl, ap, sym, _∙_}
 use mathlib.Core.Bool.{Bool, true, false, _&&_, not, cond}
 use mathlib.Core.List.{List}
 use Prim.Native.Nat.{ℕ, _+_, _≤_, _<_}
@@ -9,13 +9,13 @@ use lib.ListN.{length, set}
 use borrow.Author.Tests.{eq-eqb}
 use Rattle.meaning.specs.Filing as meant
 use Rattle.meaning.specs.Filing.{reading}
-use Rattle.meaning.specs.Line.{Line, mostIndex, isKind, kindOfLetter}
+use Rattle.meaning.specs.Line.{Line, mostIndex, kindOfLetter}
 use Rattle.meaning.specs.Refusals.{isTooSoon, mostReadings, refusal}
 use Rattle.meaning.specs.Blocks.{World, sizesFit, pointsSize, slotsSize, dailySize, readingsSize, curveSize}
 use Rattle.meaning.specs.Record.{Rec, inState, recFits, beforeOf, siteFits, isTaken, lastsFit, talliesFit, historyOfRec}
-use Rattle.meaning.specs.Calls.{Out, out, took, refused, leaves, judged, lineOf}
+use Rattle.meaning.specs.Calls.{out, took, refused, leaves, judged, lineOf}
 use Rattle.readings.specs.declared.Reading.{Reading}
-use Rattle.readings.specs.Readings.{readingView, kindView, kindLettered, fresh, seen}
+use Rattle.readings.specs.Readings.{readingView, kindLettered, fresh, seen}
 use Rattle.readings.specs.Columns.{world}
 use Rattle.readings.specs.Lent.{EachLent}
 use Rattle.readings.proofs.Laws.{seen-put, seen-length, put-past, kind-lettered}
@@ -24,7 +24,7 @@ use Rattle.answers.specs.Views.{answerView, answerOf as answered}
 use Rattle.steps.specs.declared.Progress.{Progress}
 use Rattle.steps.specs.declared.Step.{Step}
 use Rattle.steps.specs.Views.{recOf, openRec, stepView}
-use Rattle.steps.specs.Steps.{Stepped, lineBlocks, LineSizes, stepOf, answerOf, heard}
+use Rattle.steps.specs.Steps.{lineBlocks, LineSizes, stepOf, answerOf, heard}
 use Rattle.steps.proofs.Calls.{on-axis, kind-told, line-heard}
 use Rattle.early.specs.Stops.{lengthsFit, earlyStop}
 use Rattle.early.proofs.Laws.{six, parts, not-early}

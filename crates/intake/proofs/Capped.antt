@@ -11,7 +11,7 @@ use Rattle.calendar.specs.Spans.{years, among, axisYears, historyYears, isKnown
 use Rattle.calendar.proofs.Laws.{no-month, longest-31, days-in-longest, history-bounds, no-history}
 use Rattle.text.specs.Numbers.{most}
 use Rattle.text.proofs.Laws.{ltb-capped}
-use Rattle.meaning.specs.Record.{Rec, isWithin, historyOfSite, historyOfRec, siteOfRec}
+use Rattle.meaning.specs.Record.{isWithin}
 
 -- ---- the law
 module _ {A : Type 0} (p : ℕ → A) (d : A) (n : ℕ) (above : (v : ℕ) → n ≤ v → p v ≡ d) (v : ℕ) where

@@ -1,5 +1,5 @@
 -- How large the energies and the daily sums of a filing can be.
-use mathlib.Core.Path.{_≡_, refl, ap, sym, _∙_}
+use mathlib.Core.Path.{_≡_, refl, ap}
 use mathlib.Core.Logic.{⊎-elim}
 use mathlib.Core.Bool.{Bool, true, false, _&&_, _||_}
 use mathlib.Core.List.{List, map}
@@ -25,7 +25,7 @@ use Rattle.meaning.specs.Line.{mostDaily}
 use Rattle.meaning.specs.Blocks.{World, readingsOf}
 use Rattle.meaning.specs.Record.{historyOfSite, readingsFit, dailyFits}
 use Rattle.readings.specs.Columns.{Columned}
-use Rattle.intervals.specs.Columns.{opens, closes, Rising}
+use Rattle.intervals.specs.Columns.{Rising}
 use Rattle.intervals.specs.Days.{isAround, around, energyIn, sumBetween, totalIn, ofInterval, energyAt, totalAt, energiesOf, totalsOf}
 use Rattle.intervals.proofs.Filed.{Fits, fits}
 

@@ -1,5 +1,5 @@
 -- A filing's valid index years are those of the columns.
-use mathlib.Core.Path.{_≡_, ap, subst, _∙_}
+use mathlib.Core.Path.{_≡_, ap, _∙_}
 use mathlib.Core.Logic.{_↔_, _⊎_, inl, inr}
 use mathlib.Core.Bool.{Bool, true, false, not, _&&_, _||_}
 use mathlib.Core.List.{List}
@@ -11,8 +11,7 @@ use Rattle.lists.specs.Lists.{any, all, tab, range}
 use Rattle.lists.proofs.Laws.{same}
 use Rattle.lists.proofs.Reflect.{of-and, of-le, of-lt}
 use Rattle.calendar.specs.Places.{hasDate}
-use Rattle.calendar.specs.Spans.{among, axisYears, placeAt}
-use Rattle.calendar.proofs.Laws.Positions.{among-words}
+use Rattle.calendar.specs.Spans.{axisYears, placeAt}
 use Rattle.calendar.proofs.Tables.{and-both, given, tri}
 use Rattle.meaning.specs.Filing.{Site, Filing, axisOf, yearOf}
 use Rattle.meaning.specs.Validity.{intervals, hasDay, isWinterDay, overlapsWinter, winterDays, isCovered, isSound, indexValid}

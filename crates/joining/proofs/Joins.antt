@@ -1,5 +1,5 @@
 -- The bytes of a line begun and of a piece after it.
-use mathlib.Core.Path.{_≡_, refl}
+use mathlib.Core.Path.{_≡_}
 use mathlib.Core.Bool.{Bool, _||_}
 use mathlib.Core.List.{List}
 use Prim.Native.Nat.{ℕ, _+_, _-_, _≤_, min}
@@ -9,7 +9,6 @@ use lib.ListN.{length, take, length-take}
 use Rattle.digits.specs.Written.{written}
 use Rattle.pieces.specs.Parts.{endAt}
 use Rattle.pieces.proofs.Parts.{end-within}
-use Rattle.joining.specs.declared.Joined.{Joined}
 use Rattle.joining.specs.Joined.{joinedOf}
 
 -- with h bytes held, of which k count, and a piece t of which n can be the line's and e are

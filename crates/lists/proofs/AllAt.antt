@@ -11,10 +11,9 @@ use lib.Dec.{T, leb}
 use lib.ListN.{length, getD, take, drop, drop-of-length-le, List·getD-eq-default}
 use lib.Seq.{drop-cons, drop-drop, getD-drop}
 use borrow.Author.Tests.{leb-true, leb-false}
-use Rattle.lists.specs.Lists.{all, allAt, tab, neighbours}
+use Rattle.lists.specs.Lists.{all, allAt, tab}
 use Rattle.lists.proofs.Laws.{is-true}
 use Rattle.lists.proofs.Snoc.{allAt-at}
-use Rattle.lists.proofs.Tables.{and-parts}
 
 and-assoc : (a b c : Bool) → (a && (b && c)) ≡ ((a && b) && c)
 and-assoc true b c = refl

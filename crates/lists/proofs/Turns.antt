@@ -1,8 +1,7 @@
 -- Tables walked from the front, the elements that are left of one, and tables that agree at each place.
 use mathlib.Core.Path.{_≡_, refl, ap, sym, _∙_}
-use mathlib.Core.List.{List, [], _∷_, _++_, map}
-use Prim.Native.Nat.{ℕ, zero, suc, _+_, _-_, _≤_, _<_}
-use native.Mathlib.Nat.{add-zero, add-suc, suc-add, zero-add}
+use mathlib.Core.List.{List, [], _∷_}
+use Prim.Native.Nat.{ℕ, suc, _+_, _-_, _≤_, _<_}
 use native.Mathlib.Numerals.{add-one}
 use native.Mathlib.Omega.{arith}
 use mathlib.Core.Bool.{Bool, true, false}
@@ -11,7 +10,7 @@ use borrow.Author.Tests.{eqb-true, eqb-false}
 use lib.ListN.{length, getD, set, length-set}
 use lib.Seq.{sets, ext-getD, getD-set-same, getD-set-other}
 use Rattle.lists.proofs.Laws.{length-tab, getD-tab0}
-use Rattle.lists.specs.Lists.{tab, range, flat}
+use Rattle.lists.specs.Lists.{tab}
 
 -- ---- what is left of a table of n places from place i on
 pub tab-on : {A : Type 0} (f : ℕ → A) (i n : ℕ) → i < n → tab (n - i) i f ≡ f i ∷ tab (n - (i + 1)) (i + 1) f

@@ -1,20 +1,19 @@
 -- What an accepted line of each tag says: its year in the tag's span, its date, its numbers in their ranges.
 use mathlib.Core.Path.{_≡_, refl, ap, sym, _∙_}
 use mathlib.Core.Bool.{Bool, true, false, not, _&&_, _||_, cond}
-use mathlib.Core.List.{List, [], _∷_}
+use mathlib.Core.List.{_∷_}
 use mathlib.Core.Option.{Option, some, none}
 use Prim.Native.Nat.{ℕ, zero, suc, _+_, _≤_, _<_}
 use native.Mathlib.Omega.{arith}
 use lib.Dec.{T, leb, eqb→eq, leb→le}
-use lib.ListN.{length, getD, replicate, length-replicate, getD-replicate}
-use Rattle.lists.proofs.Laws.{or-split}
+use lib.ListN.{length, getD, replicate, getD-replicate}
 use Rattle.calendar.specs.declared.Years.{Years}
 use Rattle.calendar.specs.Dates.{isDate, isWinter}
 use Rattle.calendar.specs.Spans.{among, axisYears}
 use Rattle.text.specs.Fields.{fieldAt}
-use Rattle.text.specs.Numbers.{isDash, isNumber, valueOf}
+use Rattle.text.specs.Numbers.{isDash, valueOf}
 use Rattle.meaning.specs.Filing.{Site}
-use Rattle.meaning.specs.Line.{Line, Tag, S, C, X, D, P, B, R, E, other, is, rank, Form, edition, meterLetter, kindLetter, number, numberOrDash, historyYear, axisYear, dateNumber, formsOf, tagOf, inForm, inRange, meterOf, isMeter, kindOf, isKind, numberAt, yearOn, monthOn, dayOn, siteOn, valueAt, pointOf, hasDateOn, isWinterTag, mostPower, mostIndex, mostDaily, mostProfile}
+use Rattle.meaning.specs.Line.{Line, Tag, S, C, X, D, P, B, R, E, other, is, rank, Form, edition, number, numberOrDash, historyYear, axisYear, dateNumber, formsOf, tagOf, inForm, inRange, isMeter, kindOf, isKind, numberAt, yearOn, monthOn, dayOn, siteOn, valueAt, pointOf, hasDateOn, isWinterTag, mostPower, mostIndex, mostDaily, mostProfile}
 use Rattle.meaning.specs.Refusals.{Before, noDate, holds, hasNoDate, refusal}
 use Rattle.meaning.proofs.Passed.{passed, in-form, in-range}
 

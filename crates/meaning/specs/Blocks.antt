@@ -1,9 +1,9 @@
 -- The lent blocks: sizes, fresh values, and where each year, date and half-hour stands (document 01, Calls and the lines of a file).
-use mathlib.Core.Bool.{Bool, true, false, _&&_, _||_, cond}
-use mathlib.Core.List.{List, map}
+use mathlib.Core.Bool.{Bool, _&&_, cond}
+use mathlib.Core.List.{List}
 use mathlib.Core.Option.{Option, some, none}
 use Prim.Native.Nat.{ℕ, _+_, _-_, _*_}
-use lib.Dec.{eqb, leb, ltb}
+use lib.Dec.{eqb, leb}
 use lib.ListN.{length, getD, replicate}
 use Rattle.lists.specs.Lists.{tab, orElse}
 use Rattle.meaning.specs.Filing.{Reading, reading, Kind, real, corrected, estimated, strange}

@@ -1,8 +1,8 @@
 -- Opening, line and close: answer, record and blocks after each call, for all inputs (document 01, Calls and both sections on stops).
-use mathlib.Core.Bool.{Bool, _&&_, not, cond}
-use mathlib.Core.List.{List, [], _∷_}
+use mathlib.Core.Bool.{_&&_, not, cond}
+use mathlib.Core.List.{List}
 use mathlib.Core.Option.{Option, some, none}
-use Prim.Native.Nat.{ℕ, _+_, _-_, _*_}
+use Prim.Native.Nat.{ℕ, _+_, _-_}
 use lib.Dec.{eqb}
 use lib.ListN.{set, getD}
 use lib.Seq.{sets}
@@ -10,13 +10,13 @@ use Rattle.lists.specs.Lists.{tab}
 use Rattle.calendar.specs.declared.Years.{Years}
 use Rattle.calendar.specs.Spans.{positionOf}
 use Rattle.text.specs.Fields.{fieldAt}
-use Rattle.meaning.specs.Filing.{Site, Reading, reading}
+use Rattle.meaning.specs.Filing.{Reading, reading}
 use Rattle.meaning.specs.Line.{Line, Tag, S, C, X, D, P, B, R, rank, is, tagOf, numberAt, yearOn, monthOn, dayOn, siteOn, valueAt, pointOf, kindOf, keyOf, winterOn}
 use Rattle.meaning.specs.Refusals.{Reason, numberOf, refusal}
 use Rattle.meaning.specs.Level.{Report, reportOf, curveOf}
 use Rattle.meaning.specs.Closing.{Lack, lackNumber, closingRefusal}
 use Rattle.meaning.specs.Blocks.{World, sizesFit, freshWorld, codeOfPoint, isNear, nearStart, farStart, slotsStart, slotAt}
-use Rattle.meaning.specs.Record.{Rec, Lasts, Tallies, inState, freshRec, isTaken, historyOfRec, axisOfRec, recFits, contentsFit, beforeOf, filingOf}
+use Rattle.meaning.specs.Record.{Rec, Lasts, Tallies, inState, freshRec, historyOfRec, axisOfRec, recFits, contentsFit, beforeOf, filingOf}
 
 -- ---- answers: a refusal has document 01's number and the count of lines
 pub data Answer : Type 0 where

@@ -1,16 +1,15 @@
 -- The refusals 14 to 18 of a close, over a filing alone, and its sheet (document 01, Stops that come from the state).
 use mathlib.Core.Bool.{Bool, _&&_, _||_, not, cond}
 use mathlib.Core.List.{List, [], _∷_}
-use mathlib.Core.Option.{Option, some, none}
-use Prim.Native.Nat.{ℕ, _+_, _-_}
-use lib.Dec.{eqb, leb}
+use mathlib.Core.Option.{Option, some}
+use Prim.Native.Nat.{ℕ}
+use lib.Dec.{eqb}
 use Rattle.lists.specs.Lists.{any, firstOf}
 use Rattle.calendar.specs.Dates.{leap}
 use Rattle.meaning.specs.Filing.{Filing, historyList, axisOf, yearsIn}
 use Rattle.meaning.specs.Validity.{Interval, intervals, overlapsWinter, touches, totalOf, indexValid}
 use Rattle.meaning.specs.Cases.{caseOf, isDefault}
 use Rattle.meaning.specs.Points.{Place, sourceExceeds, allPlaces}
-use Rattle.meaning.specs.Level.{Report, reportOf}
 
 pub data Lack : Type 0 where
   unended partial lacking zeroTotal tooHigh : Lack

@@ -1,16 +1,15 @@
 -- One line: its tag, its fields with their forms and ranges, and what it says (document 01, Calls and the lines of a file).
-use mathlib.Core.Bool.{Bool, true, false, _&&_, _||_, not, cond}
-use mathlib.Core.List.{List, [], _∷_, _++_}
+use mathlib.Core.Bool.{Bool, true, false, _&&_, _||_, cond}
+use mathlib.Core.List.{List, [], _∷_}
 use mathlib.Core.Option.{Option, some, none}
 use Prim.Native.Nat.{ℕ, _+_, _*_}
-use lib.Dec.{eqb, leb, ltb}
-use lib.ListN.{length, replicate}
-use Rattle.lists.specs.Lists.{any}
+use lib.Dec.{eqb, leb}
+use lib.ListN.{replicate}
 use Rattle.calendar.specs.declared.Years.{Years}
-use Rattle.calendar.specs.Dates.{isDate, isWinter}
+use Rattle.calendar.specs.Dates.{isWinter}
 use Rattle.calendar.specs.Places.{datePlace, winterPlace}
 use Rattle.calendar.specs.Spans.{axisYears, among}
-use Rattle.text.specs.Fields.{upTo, past, tabs, fieldAt, reads, edition as editionText}
+use Rattle.text.specs.Fields.{upTo, past, fieldAt, reads, edition as editionText}
 use Rattle.text.specs.Numbers.{isNumber, valueOf, isDash}
 use Rattle.meaning.specs.Filing.{Meter, noMeter, curveMeter, indexMeter, Site, site, Kind, real, corrected, estimated, strange}
 

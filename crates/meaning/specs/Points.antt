@@ -1,9 +1,9 @@
 -- Where each point of the curve comes from, and the point, rounded (document 01, Cases).
-use mathlib.Core.Bool.{Bool, true, false, _&&_, _||_, cond}
+use mathlib.Core.Bool.{Bool, false, _&&_, _||_, cond}
 use mathlib.Core.List.{List, [], _∷_, map}
 use mathlib.Core.Option.{Option, some, none}
 use Prim.Native.Nat.{ℕ, _+_, _-_, _*_}
-use Rattle.lists.specs.Lists.{any, keep, firstOf, isSome, orElse, sum, present, tab, flat}
+use Rattle.lists.specs.Lists.{any, firstOf, sum, present, tab, flat}
 use Rattle.calendar.specs.Places.{hasWinterDate, dateOfWinter}
 use Rattle.calendar.specs.Spans.{historyLength}
 use Rattle.note.specs.Peaks.{peakDays}

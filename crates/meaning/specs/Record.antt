@@ -1,6 +1,6 @@
 -- The site's record: its fields, the range of each, and what it says with the lent blocks (document 01, Calls; 1).
 use mathlib.Core.Bool.{Bool, true, false, _&&_, _||_, not, cond}
-use mathlib.Core.List.{List, []}
+use mathlib.Core.List.{List}
 use mathlib.Core.Option.{Option, some, none}
 use Prim.Native.Nat.{ℕ, zero, suc, _+_, _-_, _*_, _/_, _%_}
 use lib.Dec.{eqb, leb, ltb}
@@ -11,8 +11,8 @@ use Rattle.calendar.specs.Dates.{isWinter}
 use Rattle.calendar.specs.Places.{hasDate, hasWinterDate, monthOf}
 use Rattle.calendar.specs.Spans.{among, historyYears, axisYears, yearAt, placeAt}
 use Rattle.note.specs.Coefficients.{caOf}
-use Rattle.meaning.specs.Filing.{Meter, noMeter, curveMeter, indexMeter, Site, noSite, Reading, Kind, Filing}
-use Rattle.meaning.specs.Line.{Tag, S, C, X, D, P, B, R, E, other, rank, is, isMeter, isKind, isWinterTag, mostPower, mostIndex, mostProfile, mostDaily}
+use Rattle.meaning.specs.Filing.{Meter, Site, noSite, Reading, Kind, Filing}
+use Rattle.meaning.specs.Line.{Tag, S, C, X, D, P, B, R, E, other, rank, is, isMeter, isKind, mostPower, mostIndex, mostProfile, mostDaily}
 use Rattle.meaning.specs.Refusals.{Before, isTooSoon, mostReadings}
 use Rattle.meaning.specs.File.{isIndexMeter}
 use Rattle.meaning.specs.Closing.{allWinterDates, allDates}

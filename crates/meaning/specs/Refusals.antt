@@ -1,7 +1,7 @@
 -- The refusals 2 to 12 of a line, the first condition that holds (document 01, Stops that come from the input).
-use mathlib.Core.Bool.{Bool, true, false, _&&_, _||_, not, cond}
+use mathlib.Core.Bool.{Bool, _&&_, _||_, not}
 use mathlib.Core.List.{List, [], _∷_}
-use mathlib.Core.Option.{Option, some, none}
+use mathlib.Core.Option.{Option, some}
 use Prim.Native.Nat.{ℕ, _+_}
 use lib.Dec.{eqb, leb, ltb}
 use lib.ListN.{length}
@@ -10,7 +10,6 @@ use Rattle.calendar.specs.declared.Years.{Years}
 use Rattle.calendar.specs.Dates.{isDate, isWinter}
 use Rattle.text.specs.Fields.{past, tabs}
 unfoldable pub use Rattle.text.specs.Fields.{isStrange}
-use Rattle.meaning.specs.Filing.{Site}
 use Rattle.meaning.specs.Line.{Line, Tag, S, X, E, is, tagOf, size, formsOf, inForm, inRange, someField, numberAt, yearOn, monthOn, dayOn, siteOn, hasDateOn, isWinterTag, keyOf}
 
 -- what a line is judged by besides itself

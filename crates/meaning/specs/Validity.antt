@@ -1,7 +1,7 @@
 -- Which curve years and index years are valid (document 01, Validity).
 use mathlib.Core.Bool.{Bool, _&&_, _||_, not}
 use mathlib.Core.List.{List, map}
-use Prim.Native.Nat.{ℕ, _-_, _+_, _*_}
+use Prim.Native.Nat.{ℕ, _-_, _*_}
 use lib.Dec.{eqb, leb, ltb}
 use Rattle.lists.specs.Lists.{any, all, keep, tab, range, sum, count, isSome, neighbours}
 use Rattle.calendar.specs.Dates.{isWinter}

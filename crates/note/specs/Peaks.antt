@@ -1,8 +1,8 @@
 -- Annex 1: the peak days (jours PP2) of 2007 to 2021 as winter places, year by year (document 01, Peak days and coefficients).
-use mathlib.Core.Bool.{Bool, true, false, _&&_, cond}
+use mathlib.Core.Bool.{Bool, _&&_, cond}
 use mathlib.Core.List.{List, [], _∷_}
-use Prim.Native.Nat.{ℕ, _+_, _-_}
-use lib.Dec.{leb, ltb}
+use Prim.Native.Nat.{ℕ, _-_}
+use lib.Dec.{leb}
 use lib.ListN.{getD, take, drop}
 use Rattle.lists.specs.Lists.{sum}
 

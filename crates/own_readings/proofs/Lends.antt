@@ -3,7 +3,7 @@
 --     lends, lends-shared      the cell of the array xs  ⊢ ⇛ ∃ γ. own (the `&κ mut [R]`, or the `&κ [R]`, at xs) ∗ what is kept
 --     gives-back                 [†κ] ∗ what is kept ∗ finally γ zs  ⊢ ⇛ (the cell of the array zs ∗ what zs own)
 --     gives-back-shared          [†κ] ∗ what is kept  ⊢ ⇛ (the cell of xs ∗ what xs own)
-use mathlib.Core.Path.{_≡_, refl, sym, ap, _∙_, subst}
+use mathlib.Core.Path.{_≡_, refl, sym, ap, subst}
 use Prim.Native.Nat.{ℕ}
 use mathlib.Core.List.{List, [], _∷_}
 use lib.ListN.{length}

@@ -1,9 +1,9 @@
 -- A run without an answer holds the lines that it was given, of which there are at most 8,031, and a line begun of at most 320 bytes.
 use mathlib.Core.Path.{_≡_, refl, ap, sym, _∙_}
-use mathlib.Core.Bool.{Bool, true, false, cond, true≢false, false≢true}
+use mathlib.Core.Bool.{Bool, true, false, cond, true≢false}
 use mathlib.Core.List.{List, [], _∷_, _++_}
 use mathlib.Core.Option.{Option, some, none}
-use Prim.Native.Nat.{ℕ, _+_, _*_, _≤_, _<_}
+use Prim.Native.Nat.{ℕ, _+_, _*_, _≤_}
 use native.Mathlib.Omega.{arith}
 use lib.Dec.{T, eqb, ltb}
 use lib.ListN.{length, length-append}
@@ -14,15 +14,14 @@ use Rattle.meaning.specs.Refusals.{Reason}
 use Rattle.meaning.specs.File.{refusalAt}
 use Rattle.meaning.specs.Blocks.{World, sizesFit}
 use Rattle.meaning.specs.Record.{Rec}
-use Rattle.meaning.specs.Calls.{Out, openingOf, judged, lineOf}
+use Rattle.meaning.specs.Calls.{openingOf, judged, lineOf}
 use Rattle.demands.proofs.Held.Rec.{rec-step}
 use Rattle.demands.proofs.Held.World.{world-step}
 use Rattle.demands.proofs.Held.Follows.{few-lines}
 use Rattle.demands.proofs.Demand2.{Held, held-fresh, line-is}
 use Rattle.pieces.specs.Run.{Run, runOf, isAnswered, started, given, longer, fedByte, fed}
-use Rattle.pieces.specs.Promise.{mostInput, AnswerComes}
+use Rattle.pieces.specs.Promise.{AnswerComes}
 use Rattle.pieces.proofs.Long.{long-refused}
-use Rattle.pieces.proofs.Feeding.{kept-byte}
 
 -- ---- a line that is taken is held
 judged-held : (es : List Line) (s : Rec) (w : World) (l : Line) → Held es s w → (o : Option Reason) → refusalAt es l ≡ o

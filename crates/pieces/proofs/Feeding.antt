@@ -1,13 +1,13 @@
 -- Pieces one after the other are one input, and a run that has its answer keeps it.
 use mathlib.Core.Path.{_≡_, refl, ap, sym, _∙_}
-use mathlib.Core.Bool.{Bool, true, false, cond, true≢false, false≢true}
+use mathlib.Core.Bool.{true, false, true≢false, false≢true}
 use mathlib.Core.List.{List, [], _∷_, _++_}
 use Prim.Native.Nat.{ℕ}
 use Rattle.lists.specs.Lists.{flat}
 use Rattle.meaning.specs.Calls.{Answer, took, refused, reports, Out}
 use Rattle.meaning.specs.Sheet.{Outcome}
 use Rattle.demands.specs.CallLists.{outcomeOfOut, onwardBy, onward}
-use Rattle.pieces.specs.Run.{Run, runOf, isAnswered, fedByte, fed, fedAll, ended}
+use Rattle.pieces.specs.Run.{Run, isAnswered, fedByte, fed, fedAll, ended}
 
 pub fed-append : (r : Run) (a b : List ℕ) → fed r (a ++ b) ≡ fed (fed r a) b
 unfolding fed

@@ -1,11 +1,10 @@
 -- A level on a sheet lies within the bound of demand 3: such a sheet's lines are all accepted, and so the file of its close.
-use mathlib.Core.Path.{_≡_, refl, ap, sym, _∙_}
+use mathlib.Core.Path.{_≡_, refl, ap}
 use mathlib.Core.List.{List, [], _∷_, _++_, append-assoc, append-nil}
 use mathlib.Core.Option.{Option, some, none}
 use Prim.Native.Nat.{ℕ, _+_}
 use native.Mathlib.Omega.{arith}
 use lib.ListN.{length}
-use Rattle.meaning.specs.Filing.{Filing}
 use Rattle.meaning.specs.Line.{Line}
 use Rattle.meaning.specs.Input.{linesOf}
 use Rattle.meaning.specs.Refusals.{Reason}
@@ -14,8 +13,7 @@ use Rattle.meaning.specs.Level.{Report, reportOf}
 use Rattle.meaning.specs.Closing.{Lack, closingRefusal}
 use Rattle.meaning.specs.Blocks.{World}
 use Rattle.meaning.specs.Record.{Rec}
-use Rattle.meaning.specs.Calls.{recAfter, worldAfter}
-use Rattle.meaning.specs.Sheet.{Sheet, stopped, level, stoppedAt, closingBy, closingOf, outcomeBy, outcomeFrom, outcomeOf, sheetOf}
+use Rattle.meaning.specs.Sheet.{stopped, level, stoppedAt, closingBy, closingOf, outcomeBy, outcomeFrom, outcomeOf, sheetOf}
 use Rattle.demands.specs.Demands.{Bounded}
 use Rattle.demands.proofs.Bound.Theorem.{bounded-report}
 use Rattle.demands.proofs.Held.Rec.{rec-step}

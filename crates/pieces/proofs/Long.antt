@@ -1,16 +1,16 @@
 -- A line of over 320 bytes is refused, whatever follows: the call gives the same for the line and for its first 321 bytes.
-use mathlib.Core.Path.{_≡_, refl, ap, sym, _∙_}
+use mathlib.Core.Path.{_≡_, refl, ap}
 use mathlib.Core.Bool.{Bool, true, false, _&&_, cond}
-use mathlib.Core.List.{List, _++_}
-use mathlib.Core.Option.{Option, some, none}
-use Prim.Native.Nat.{ℕ, _<_}
+use mathlib.Core.List.{_++_}
+use mathlib.Core.Option.{some}
+use Prim.Native.Nat.{_<_}
 use native.Mathlib.Omega.{arith}
 use lib.Dec.{eqb}
 use lib.ListN.{length, length-append}
 use borrow.Author.Tests.{ne-eqb, lt-ltb}
 use Rattle.lists.specs.Lists.{firstOf}
 use Rattle.meaning.specs.Line.{Line}
-use Rattle.meaning.specs.Refusals.{Before, Reason, illegible, isIllegible, holds, order, refusal}
+use Rattle.meaning.specs.Refusals.{Before, illegible, isIllegible, holds, order, refusal}
 use Rattle.meaning.specs.Blocks.{World, sizesFit}
 use Rattle.meaning.specs.Record.{Rec, recFits, beforeOf}
 use Rattle.meaning.specs.Calls.{leaves, judged, lineOf}

@@ -10,7 +10,7 @@ use lib.Dec.{eqb, ltb}
 use lib.ListN.{length, take, drop, getD, length-append, length-take, length-drop, drop-of-length-le}
 use lib.Seq.{drop-cons, take-suc, take-all, getD-take}
 use borrow.Author.Tests.{eq-eqb, ne-eqb, eqb-true, eqb-false, lt-ltb, le-ltb, ltb-true, ltb-false}
-use Rattle.lists.specs.Lists.{Each, each-nil, each-cons}
+use Rattle.lists.specs.Lists.{each-nil, each-cons}
 use Rattle.meaning.specs.Line.{Line}
 use Rattle.meaning.specs.Calls.{Out}
 use Rattle.pieces.specs.Run.{Run, runOf, isAnswered, given, longer, fedByte, fed}

@@ -1,14 +1,13 @@
 -- A run over pieces gives what opening, the lines of the pieces put together, and the close give; so, by demand 2, what these lines define.
 use mathlib.Core.Path.{_≡_, refl, ap, sym, _∙_}
-use mathlib.Core.Logic.{_≢_}
 use mathlib.Core.Bool.{Bool, true, false, cond}
 use mathlib.Core.List.{List, [], _∷_, _++_, append-assoc, append-nil}
 use Prim.Native.Nat.{ℕ, _+_, _≤_, _<_}
 use native.Mathlib.Omega.{arith}
 use lib.Dec.{eqb, ltb}
-use lib.ListN.{length, length-append}
+use lib.ListN.{length}
 use borrow.Author.Tests.{eqb-true, eqb-false, ltb-true, ltb-false}
-use Rattle.lists.specs.Lists.{Each, each-nil, each-cons, flat}
+use Rattle.lists.specs.Lists.{each-nil, flat}
 use Rattle.meaning.specs.Line.{Line}
 use Rattle.meaning.specs.Input.{linesOf}
 use Rattle.meaning.specs.Text.{textOf}
@@ -19,11 +18,11 @@ use Rattle.meaning.specs.Sheet.{Outcome, sheetOf, outcomeOf}
 use Rattle.demands.specs.CallLists.{called, outcomeOfOut, onward, runFrom, run}
 use Rattle.meaning.proofs.Pins.Input.{input-words}
 use Rattle.demands.proofs.Demand2.{demand-2}
-use Rattle.pieces.specs.Run.{Run, runOf, isAnswered, started, given, longer, fedByte, fed, fedAll, shut, lastLine, ended, ranOver, textGiven}
+use Rattle.pieces.specs.Run.{runOf, isAnswered, started, given, longer, fedByte, fed, shut, lastLine, ended, ranOver, textGiven}
 use Rattle.pieces.specs.Promise.{Pieces, PiecesText}
 use Rattle.pieces.proofs.Lines.{Endless, endless-more, joined, lines-begun}
 use Rattle.pieces.proofs.Long.{long-same, long-refused}
-use Rattle.pieces.proofs.Feeding.{fed-append, fed-flat, kept-all, stops, goes-on}
+use Rattle.pieces.proofs.Feeding.{fed-flat, kept-all, stops, goes-on}
 
 -- ---- the input's end
 shut-outcome : (o : Out) → outcomeOfOut (shut o) ≡ onward o (runFrom (o .after) (o .world) [])

@@ -12,7 +12,7 @@ use Rattle.digits.proofs.Digits.{digits-each, value-digits}
 use Rattle.meaning.specs.Line.{Line, numberAt}
 use Rattle.meaning.specs.Input.{linesOf}
 use Rattle.meaning.specs.File.{filingIn}
-use Rattle.meaning.specs.Level.{Report, lowestRate}
+use Rattle.meaning.specs.Level.{lowestRate}
 use Rattle.demands.specs.Exact.{exactFraction}
 use Rattle.meaning.specs.Text.{tabbed, levelText, levelLine, yearLine, refusalLine, textOf}
 use Rattle.meaning.specs.Sheet.{Sheet, stopped, level, sheetOf}

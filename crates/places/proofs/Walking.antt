@@ -1,9 +1,8 @@
 -- A walk over places: what is tallied and entered so far, and the places that are left.
-use mathlib.Core.Path.{_≡_, refl, ap, sym, subst, _∙_}
+use mathlib.Core.Path.{_≡_, refl, ap, sym, _∙_}
 use mathlib.Core.List.{List, [], _∷_, _++_, map}
 use mathlib.Core.Bool.{Bool, true, false}
-use Prim.Native.Nat.{ℕ, suc, _+_, _-_, _*_, _≤_, _<_}
-use native.Mathlib.Nat.{add-zero}
+use Prim.Native.Nat.{ℕ, suc, _+_, _-_, _≤_, _<_}
 use native.Mathlib.Numerals.{add-one}
 use native.Mathlib.Omega.{arith}
 use lib.Dec.{ltb}
@@ -25,7 +24,7 @@ use Rattle.years.specs.Years.{yearsOn, onDay, positionIn}
 use Rattle.points.specs.Sources.{Day, dayWith, sourceIn}
 use Rattle.points.specs.Fits.{RateFits, AtMost, DayFits}
 use Rattle.tallies.specs.declared.Tally.{Tally}
-use Rattle.tallies.specs.Tallies.{tally, tallyOf, entriesOf, plus, entryFilled, tallyFilled, entryIn, place}
+use Rattle.tallies.specs.Tallies.{tally, tallyOf, entriesOf, plus, entryFilled, tallyFilled, place}
 use Rattle.places.specs.Places.{Held, dayIn, placesOn, placesIn}
 use Rattle.tallies.specs.Fits.{TallyFits}
 use Rattle.places.specs.Fits.{Entered, HeldFits}

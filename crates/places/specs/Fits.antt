@@ -1,7 +1,7 @@
 -- What is known of the lists once 1, 14 and 15 to 17 have passed, and what a walk over places promises.
 use mathlib.Core.Path.{_≡_}
 use mathlib.Core.List.{List}
-use Prim.Native.Nat.{ℕ, _≤_, _<_}
+use Prim.Native.Nat.{ℕ, _<_}
 use lib.ListN.{length, getD}
 use lib.Seq.{sets}
 use Rattle.note.specs.Peaks.{peakDays}

@@ -1,19 +1,18 @@
 -- What the answer of a judge tells: the refusal that the record gives the line, and the numbers of a line that it accepts.
-use mathlib.Core.Path.{_≡_, refl, ap, sym, _∙_}
-use mathlib.Core.Option.{Option, some, none}
-use Prim.Native.Nat.{ℕ}
+use mathlib.Core.Path.{_≡_, ap}
+use mathlib.Core.Option.{none}
 use Rattle.calendar.specs.declared.Years.{Years}
 use Rattle.calendar.specs.Spans.{historyYears}
 use Rattle.meaning.specs.Filing as meant
 use Rattle.meaning.specs.Filing.{site}
-use Rattle.meaning.specs.Line.{Line, S, B, R, E, tagOf, yearOn, numberAt, siteOn}
-use Rattle.meaning.specs.Refusals.{Reason, refusal}
+use Rattle.meaning.specs.Line.{Line, S, B, R, E, yearOn, numberAt, siteOn}
+use Rattle.meaning.specs.Refusals.{refusal}
 use Rattle.meaning.specs.Record.{Rec, historyOfRec, beforeOf}
 use Rattle.intake.specs.Views.{siteView}
 use Rattle.intake.proofs.Tags.{shown}
 use Rattle.judge.specs.Order.{numberBy}
 use Rattle.judge.specs.Before.{Known, beforeFirst, beforeRising, beforeEnd}
-use Rattle.judge.specs.Answers.{whereTaken, siteShown, siteJudged, yearJudged, rateJudged, endJudged}
+use Rattle.judge.specs.Answers.{siteShown, siteJudged, yearJudged, rateJudged, endJudged}
 use Rattle.judge.specs.declared.SiteJudged.{SiteJudged}
 use Rattle.judge.specs.declared.YearJudged.{YearJudged}
 use Rattle.judge.specs.declared.RateJudged.{RateJudged}

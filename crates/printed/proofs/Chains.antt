@@ -1,10 +1,9 @@
 -- Texts put one after the other are one text put at once.
-use mathlib.Core.Path.{_≡_, refl, ap, sym, _∙_}
-use mathlib.Core.List.{List, [], _∷_, _++_}
-use Prim.Native.Nat.{ℕ, suc, _+_, _^_, _≤_, _<_}
+use mathlib.Core.Path.{_≡_, ap, sym, _∙_}
+use mathlib.Core.List.{List, _++_}
+use Prim.Native.Nat.{ℕ, _+_, _^_, _≤_, _<_}
 use native.Mathlib.Omega.{arith}
 use lib.ListN.{length, length-append}
-use Rattle.digits.specs.Digits.{digitsOf}
 use Rattle.digits.specs.Written.{written, placeAfter}
 use Rattle.digits.proofs.Digits.{digits-length}
 use Rattle.digits.proofs.Written.{place-fits, length-written, written-next}

@@ -1,14 +1,14 @@
 -- Columns of 600 and the lists that they stand for.
-use mathlib.Core.Path.{_≡_, refl, ap, sym, _∙_}
+use mathlib.Core.Path.{_≡_, _∙_}
 use mathlib.Core.List.{List}
-use Prim.Native.Nat.{ℕ, _≤_, _+_, _<_}
+use Prim.Native.Nat.{ℕ, _≤_}
 use native.Mathlib.Omega.{arith}
 use lib.ListN.{length, getD}
 use Rattle.lists.specs.Lists.{tab}
-use Rattle.lists.proofs.Laws.{length-tab, getD-tab0}
+use Rattle.lists.proofs.Laws.{getD-tab0}
 use Rattle.lists.proofs.Tables.{tab-same}
 use Rattle.meaning.specs.Filing as meant
-use Rattle.meaning.specs.Blocks.{World, readingsSize, freshReading, readingsOf}
+use Rattle.meaning.specs.Blocks.{readingsSize, freshReading, readingsOf}
 use Rattle.readings.specs.declared.Reading.{Reading}
 use Rattle.readings.specs.Readings.{seen, positionsOf, countsOf, lettersOf}
 use Rattle.readings.specs.Columns.{readingIn, readingsIn, world, worldIn, Columned}

@@ -1,18 +1,16 @@
 -- A column whose first i numbers are a field of the first i readings, and whose others are as they were.
 use mathlib.Core.Path.{_≡_, refl, sym, _∙_, ap, subst}
-use Prim.Native.Nat.{ℕ, zero, suc, _+_, _<_, _≤_, min}
-use native.Mathlib.Nat.{not-suc-le-zero, le-of-suc-le-suc}
-use native.Mathlib.Numerals.{add-one}
+use Prim.Native.Nat.{ℕ, zero, suc, _<_, _≤_, min}
 use native.Mathlib.Omega.{arith}
 use mathlib.Core.Bool.{Bool, true, false, not}
-use mathlib.Core.List.{List, [], _∷_, map}
+use mathlib.Core.List.{List, map}
 use lib.Dec.{T, ltb, ltb→lt, nltb→le}
 use lib.ListN.{length, getD, set, replicate, length-set, length-map, length-replicate, getD-replicate, List·getD-map, List·getD-eq-default}
 use lib.Seq.{getD-set-same, getD-set-other, ext-getD}
 use Rattle.lists.specs.Lists.{tab}
 use Rattle.lists.proofs.Laws.{length-tab, getD-tab0}
 use Rattle.readings.specs.declared.Reading.{Reading}
-use Rattle.readings.specs.Readings.{fresh, letter, positionsOf, countsOf, lettersOf, firstReadings, columnsOf}
+use Rattle.readings.specs.Readings.{fresh, firstReadings}
 
 -- 600 times a number, as a name: so that antt does not write the list out
 unfoldable pub blank : ℕ → List ℕ

@@ -4,7 +4,7 @@
 ghost use mathlib.Core.Path.{_≡_};
 ghost use mathlib.Core.Bool.{cond};
 ghost use Prim.Native.Nat.{min};
-ghost use lib.ListN.{length, set};
+ghost use lib.ListN.{set};
 ghost use Rattle.meaning.specs.Blocks.{letterOfKind};
 ghost use Rattle.readings.specs.Readings.{kindView, kindLettered, freshened, columnsOf};
 

@@ -6,14 +6,14 @@ use Prim.Native.Nat.{ℕ, _≤_}
 use native.Mathlib.Omega.{arith}
 use lib.Dec.{T, eqb}
 use lib.ListN.{length, getD}
-use borrow.Author.Tests.{eq-eqb, ne-eqb, eqb-true}
+use borrow.Author.Tests.{ne-eqb}
 use Rattle.lists.specs.Lists.{all}
 use Rattle.lists.proofs.Laws.{is-true}
 use Rattle.text.specs.Numbers.{isDigit, isNumber, isDash}
 use Rattle.text.specs.Fields.{reads, edition}
 use Rattle.text.proofs.Laws.{of-digit, of-reads}
-use Rattle.meaning.specs.Line.{Tag, other, tagOfField, tagOfLetter, meterOf, meterOfLetter, kindOf, kindOfLetter}
-use Rattle.meaning.specs.Filing.{Meter, noMeter, Kind, strange}
+use Rattle.meaning.specs.Line.{other, tagOfField, tagOfLetter, meterOf, meterOfLetter, kindOf, kindOfLetter}
+use Rattle.meaning.specs.Filing.{Meter, noMeter, strange}
 use Rattle.shapes.specs.Shapes.{aloneOf, shapeOf}
 
 -- ---- one byte alone, by what the code has in hand

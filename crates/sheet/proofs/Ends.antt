@@ -1,5 +1,5 @@
 -- The end of a run: what is handed back where it has its answer, with no line begun, and after a last line.
-use mathlib.Core.Path.{_≡_, refl, ap, sym, _∙_}
+use mathlib.Core.Path.{_≡_, refl, sym, _∙_}
 use mathlib.Core.Bool.{Bool, true, false, _&&_, not, false≢true}
 use mathlib.Core.List.{List, [], _∷_}
 use Prim.Native.Nat.{ℕ, _<_, min}
@@ -18,7 +18,7 @@ use Rattle.report.specs.Rows.{yearsShown}
 use Rattle.answers.specs.declared.Answer.{Answer}
 use Rattle.answers.specs.declared.Answer.the-variants.{Took, Refused, Reports}
 use Rattle.answers.specs.Views.{answerView}
-use Rattle.ended.specs.Ends.{Handed, hands, noYears, answerShown, yearsBeside, handed}
+use Rattle.ended.specs.Ends.{hands, noYears, answerShown, yearsBeside, handed}
 
 -- ---- with an answer: no years stand beside it
 answer-back : (a : Answer) → answerShown (answerView a) ≡ a

@@ -1,5 +1,5 @@
 -- The text of what a run hands back is the text of its sheet.
-use mathlib.Core.Path.{_≡_, refl, ap, sym, _∙_}
+use mathlib.Core.Path.{_≡_, refl, ap, _∙_}
 use mathlib.Core.Bool.{Bool, true, false, _&&_, cond}
 use mathlib.Core.List.{List, [], _∷_, _++_}
 use mathlib.Core.Option.{Option, some, none}
@@ -10,7 +10,6 @@ use Rattle.meaning.specs.Line.{Line}
 use Rattle.meaning.specs.Input.{linesOf}
 use Rattle.meaning.specs.Refusals.{Reason, refusal}
 use Rattle.meaning.specs.Closing.{Lack, closingRefusal}
-use Rattle.meaning.specs.Level.{Report}
 use Rattle.meaning.specs.Text.{levelLine, textOf}
 use Rattle.meaning.specs.Sheet.{sheetOf}
 use Rattle.meaning.specs.Blocks.{World, sizesFit}
@@ -19,9 +18,9 @@ use Rattle.meaning.specs.Calls.{Answer, took, refused, reports, Out, leaves, op
 use Rattle.demands.specs.CallLists.{sheetOfAnswer}
 use Rattle.pieces.specs.Run.{Run, runOf, isAnswered, started, given, longer, fedByte, fed, fedAll, shut, lastLine, ended, ranOver, textGiven}
 use Rattle.pieces.proofs.Pieces.{pieces-text}
-use Rattle.ended.specs.Ends.{Handed, answerShown, yearsBeside, handed}
+use Rattle.ended.specs.Ends.{answerShown, yearsBeside, handed}
 use Rattle.shown.specs.Shown.{sheetText}
-use Rattle.shown.proofs.Years.{Printable, rows-shown, none-printable, report-printable}
+use Rattle.shown.proofs.Years.{Printable, rows-shown, report-printable}
 
 -- the years of a report are printable
 unfoldable pub Prints : Answer → Type 0

@@ -2,7 +2,7 @@
 use mathlib.Core.Path.{_≡_, refl, ap, sym, _∙_}
 use mathlib.Core.Bool.{Bool, true, false, cond}
 use mathlib.Core.List.{List, [], _∷_, _++_, append-assoc, append-nil, map}
-use Prim.Native.Nat.{ℕ, zero, suc, _+_, _*_, _^_, _≤_, _<_}
+use Prim.Native.Nat.{ℕ, suc, _+_, _^_, _≤_, _<_}
 use native.Mathlib.Numerals.{add-one}
 use native.Mathlib.Omega.{arith}
 use lib.Dec.{eqb}
@@ -13,9 +13,8 @@ use Rattle.lists.specs.Lists.{flat}
 use Rattle.digits.proofs.Written.{written-fits, take-written}
 use Rattle.meaning.specs.Text.{tabbed, levelText, yearText}
 use Rattle.printed.specs.Put.{Put}
-use Rattle.printed.proofs.Chains.{tabbed-length, put-length, put-then}
+use Rattle.printed.proofs.Chains.{tabbed-length}
 use Rattle.report.specs.declared.Year.{Year}
-use Rattle.report.specs.Rows.{noYear}
 use Rattle.shown.specs.Shown.{rowText, rowsText, Holds}
 
 -- ---- nothing put

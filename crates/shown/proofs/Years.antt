@@ -1,15 +1,15 @@
 -- The ten years beside a report print the lines of its years.
-use mathlib.Core.Path.{_≡_, refl, ap, sym, _∙_}
+use mathlib.Core.Path.{_≡_, refl, ap}
 use mathlib.Core.Bool.{Bool, true, false}
-use mathlib.Core.List.{List, [], _∷_, _++_, append-nil, map}
-use Prim.Native.Nat.{ℕ, zero, suc, _+_, _≤_, _<_}
+use mathlib.Core.List.{List, [], _∷_, _++_, map}
+use Prim.Native.Nat.{ℕ, zero, suc, _+_, _≤_}
 use native.Mathlib.Omega.{arith}
 use lib.Dec.{T}
 use lib.ListN.{length, getD}
 use Rattle.lists.specs.Lists.{Each, each-nil, each-cons, flat, tab, range}
 use Rattle.lists.proofs.Sums.{each-range}
 use Rattle.calendar.specs.Spans.{isKnown, historyYears}
-use Rattle.calendar.proofs.Laws.{history-bounds, history-short, has-history, no-history}
+use Rattle.calendar.proofs.Laws.{history-bounds, history-short, no-history}
 use Rattle.meaning.specs.Filing.{Filing, historyOf, yearsIn, historyList}
 use Rattle.meaning.specs.Text.{yearLine}
 use Rattle.meaning.specs.Level.{YearReport, yearReport, Report, reportOf}

@@ -1,9 +1,9 @@
 -- Opening: refused where a block is not of its size, else a fresh record and fresh blocks.
-use mathlib.Core.Path.{_≡_, sym, ap, _∙_}
+use mathlib.Core.Path.{_≡_, ap}
 use mathlib.Core.Bool.{Bool, true, false, cond}
-use Rattle.meaning.specs.Blocks.{World, sizesFit, freshWorld}
+use Rattle.meaning.specs.Blocks.{World, freshWorld}
 use Rattle.meaning.specs.Record.{freshRec}
-use Rattle.meaning.specs.Calls.{Out, out, took, leaves, openingOf}
+use Rattle.meaning.specs.Calls.{out, took, leaves, openingOf}
 use Rattle.opening.specs.Opens.{Opens}
 use Rattle.site.specs.declared.Record.{Record}
 use Rattle.site.specs.Views.{view, openedBy}

@@ -1,6 +1,6 @@
 // 15, 16 and 17.
 ghost use mathlib.Core.Path.{_≡_};
-ghost use Prim.Native.Nat.{_≤_, _<_};
+ghost use Prim.Native.Nat.{_≤_};
 ghost use Rattle.intervals.specs.Columns.{Rising};
 ghost use Rattle.state_stops.specs.Stops.{stopNumber};
 use calendar::Years;

@@ -1,9 +1,9 @@
 -- What a caller makes of a step: where its reading goes, and that the line's call is the step with the reading stored and the line counted.
-use mathlib.Core.Path.{_≡_, refl, ap, sym, _∙_}
+use mathlib.Core.Path.{_≡_, refl, ap, sym}
 use mathlib.Core.Bool.{Bool, true, false, cond}
 use mathlib.Core.List.{List}
 use mathlib.Core.Option.{Option, some, none}
-use Prim.Native.Nat.{ℕ, _+_, _<_}
+use Prim.Native.Nat.{ℕ, _<_}
 use native.Mathlib.Omega.{arith}
 use lib.Dec.{T, eqb}
 use lib.ListN.{set}
@@ -14,7 +14,7 @@ use Rattle.meaning.specs.Line.{Line, X, is, tagOf, numberAt, kindOf, isKind, ki
 use Rattle.meaning.specs.Refusals.{Reason, numberOf, refusal}
 use Rattle.meaning.specs.Blocks.{World, letterOfKind}
 use Rattle.meaning.specs.Record.{Rec, inState, axisOfRec, beforeOf}
-use Rattle.meaning.specs.Calls.{Out, judged, positionOn, readingAt, recAfter, worldAfter}
+use Rattle.meaning.specs.Calls.{judged, positionOn, readingAt, recAfter, worldAfter}
 use Rattle.meaning.proofs.Accepted.{is-tag, kind-in}
 use Rattle.judge.proofs.Chain.{number-above}
 use Rattle.steps.specs.Steps.{Stepped, world, lineBlocks, blocksAfter, stepBy, stepOf, answerOf, heard}

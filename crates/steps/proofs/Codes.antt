@@ -1,9 +1,9 @@
 -- The codes of an accepted C or P line, as the blocks have them.
-use mathlib.Core.Path.{_≡_, refl, ap, sym, _∙_}
+use mathlib.Core.Path.{_≡_, refl, ap, _∙_}
 use mathlib.Core.Bool.{Bool, true, false, cond}
-use mathlib.Core.List.{List, map}
-use mathlib.Core.Option.{Option, some, none}
-use Prim.Native.Nat.{ℕ, _+_, _≤_, _<_, min}
+use mathlib.Core.List.{map}
+use mathlib.Core.Option.{some, none}
+use Prim.Native.Nat.{ℕ, _+_, _≤_, min}
 use native.Mathlib.Omega.{arith}
 use borrow.Author.Tests.{le-leb}
 use Rattle.lists.specs.Lists.{tab}
@@ -13,7 +13,7 @@ use Rattle.text.specs.Fields.{fieldAt}
 use Rattle.text.specs.Numbers.{isDash, most}
 use Rattle.meaning.specs.Line.{Line, C, P, tagOf, valueAt, pointOf, mostPower, mostProfile}
 use Rattle.meaning.specs.Refusals.{Before, refusal}
-use Rattle.meaning.specs.Blocks.{missingPoint, codeOfPoint}
+use Rattle.meaning.specs.Blocks.{codeOfPoint}
 use Rattle.meaning.specs.Calls.{pointCodes, profileValues}
 use Rattle.meaning.proofs.Accepted.{PointFits, point-in, profile-in}
 use Rattle.values.specs.Codes.{dash, pointRow, profileRow}

@@ -1,12 +1,12 @@
 -- What a step comes to, in the order of checking; and a tag that writes some blocks leaves the others.
-use mathlib.Core.Path.{_≡_, refl, ap, sym, _∙_}
-use mathlib.Core.Bool.{Bool, true, false, cond}
+use mathlib.Core.Path.{_≡_, refl}
+use mathlib.Core.Bool.{true, false, cond}
 use mathlib.Core.Option.{Option, some, none}
 use Prim.Native.Nat.{ℕ}
 use Rattle.lists.specs.Lists.{firstOf}
 use Rattle.text.specs.Fields.{fieldAt}
 use Rattle.meaning.specs.Line.{Line, Tag, S, C, X, D, P, B, R, E, is, tagOf, numberAt, kindOf}
-use Rattle.meaning.specs.Refusals.{Reason, illegible, unknown, numberOf, isIllegible, isUnknown, holds, order, refusal}
+use Rattle.meaning.specs.Refusals.{Reason, numberOf, isIllegible, isUnknown, holds, order, refusal}
 use Rattle.meaning.specs.Blocks.{World, letterOfKind}
 use Rattle.meaning.specs.Record.{Rec, inState, axisOfRec, beforeOf}
 use Rattle.meaning.specs.Calls.{positionOn, recAfter, worldAfter}

@@ -1,20 +1,19 @@
 -- Laws of tallies and of entries: one place, two groups of places in a row, and what fits.
 use mathlib.Core.Path.{_≡_, refl, ap, sym, _∙_}
 use mathlib.Core.Bool.{Bool, true, false, _||_, cond}
-use mathlib.Core.List.{List, [], _∷_, _++_, map, append-nil}
+use mathlib.Core.List.{List, [], _∷_, _++_, map}
 use mathlib.Core.Option.{Option, some, none}
-use Prim.Native.Nat.{ℕ, zero, suc, _+_, _-_, _*_, _≤_, _<_}
+use Prim.Native.Nat.{ℕ, zero, suc, _+_, _-_, _≤_}
 use native.Mathlib.Nat.{add-zero, zero-add, add-assoc, add-suc, suc-add}
 use native.Mathlib.Omega.{arith}
 use lib.Dec.{eqb}
 use lib.ListN.{length, set, length-append}
 use lib.Seq.{sets}
-use borrow.Author.Tests.{eq-eqb, ne-eqb}
 use Rattle.lists.specs.Lists.{any, present, sum}
-use Rattle.rounding.specs.Points.{rounded, rated, mostPoint}
+use Rattle.rounding.specs.Points.{rated, mostPoint}
 use Rattle.rounding.proofs.Formulas.{rated-most}
 use Rattle.meaning.specs.Points.{Source, Place, meant, sourceExceeds, pointAt, ratedBy, withRate}
-use Rattle.meaning.specs.Level.{missingEntry, entryOf}
+use Rattle.meaning.specs.Level.{entryOf}
 use Rattle.meaning.specs.Record.{rateOfCode}
 use Rattle.own_points.specs.declared.Filled.{Filled}
 use Rattle.own_points.specs.Filled.{filledOf, filledWhere}

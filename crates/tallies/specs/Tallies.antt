@@ -1,7 +1,7 @@
 -- What the places of a curve come to: entries, sum and count (document 01, Cases; 18).
 use mathlib.Core.Bool.{Bool, true, false, _||_, cond}
 use mathlib.Core.List.{List, map}
-use mathlib.Core.Option.{Option, some, none}
+use mathlib.Core.Option.{Option, none}
 use Prim.Native.Nat.{ℕ, _+_}
 use lib.ListN.{length}
 use Rattle.lists.specs.Lists.{any, present, sum}

@@ -1,6 +1,6 @@
 // A place's entry in the curve, and sums over places (document 01, Cases; 18).
 ghost use mathlib.Core.Path.{_≡_};
-ghost use Prim.Native.Nat.{_+_, _≤_, _<_, _*_};
+ghost use Prim.Native.Nat.{_+_, _≤_};
 ghost use Rattle.own_points.specs.Fits.{FilledFits};
 ghost use Rattle.points.specs.Fits.{RateFits};
 ghost use Rattle.tallies.specs.Tallies.{entryFilled, tallyFilled, plus as Tallies·plus};

@@ -23,6 +23,13 @@ pub fn line_of(turn: Turn, piece: &[u8]) -> &[u8]
     line_in(piece, turn.from, turn.to)
 }
 
+// Whether the turn has a line to give.
+pub fn has_line(turn: Turn) -> bool
+    ensures { λ r. ⌜ r ≡ turn .whole ⌝ }
+{
+    turn.whole
+}
+
 // The record that it is given to.
 pub fn record_of(turn: Turn) -> Record
     ensures { λ r. ⌜ r ≡ turn .«record» ⌝ }

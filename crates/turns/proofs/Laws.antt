@@ -1,17 +1,16 @@
 -- A run and the next line of its piece: the line is given and the rest is left, or there is none, and what is left is a line begun.
 use mathlib.Core.Path.{_≡_, refl, ap, sym, _∙_}
 use mathlib.Core.Bool.{Bool, true, false, _&&_, _||_, not, cond, true≢false, false≢true}
-use mathlib.Core.List.{List, [], _∷_, _++_}
+use mathlib.Core.List.{List, [], _∷_}
 use Prim.Native.Nat.{ℕ, _+_, _-_, _≤_, _<_, min}
 use native.Mathlib.Omega.{arith}
 use lib.Dec.{ltb}
 use lib.ListN.{length, take, drop, length-take, length-drop, drop-of-length-le, take-append-drop}
 use lib.Seq.{take-all, drop-drop}
 use borrow.Author.Tests.{ltb-true, ltb-false}
-use Rattle.meaning.specs.Line.{Line}
 use Rattle.meaning.specs.Blocks.{World}
 use Rattle.meaning.specs.Calls.{Out, lineOf}
-use Rattle.pieces.specs.Run.{Run, runOf, isAnswered, given, longer, fed}
+use Rattle.pieces.specs.Run.{runOf, isAnswered, given, longer, fed}
 use Rattle.pieces.specs.Parts.{endAt, stepped}
 use Rattle.pieces.proofs.Feeding.{fed-append, kept}
 use Rattle.pieces.proofs.Parts.{end-within, longer-given, longer-held, none-left, rest-is, turn-fed}

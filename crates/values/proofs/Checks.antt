@@ -1,29 +1,28 @@
 -- 5 and 6 of a C or P line by what is read off it, and what the blocks then hold.
 use mathlib.Core.Path.{_≡_, refl, ap, sym, _∙_}
 use mathlib.Core.Bool.{Bool, true, false, not, _&&_, _||_, cond}
-use mathlib.Core.List.{List, map}
-use mathlib.Core.Option.{some, none}
+use mathlib.Core.List.{List}
+use mathlib.Core.Option.{some}
 use Prim.Native.Nat.{ℕ, zero, suc, _+_, _≤_, _<_, min}
 use native.Mathlib.Omega.{arith}
 use lib.Dec.{leb, ltb, eqb}
 use lib.ListN.{length, getD, replicate}
 use borrow.Author.Tests.{ltb-false, ne-eqb}
-use Rattle.lists.specs.Lists.{any, tab, orElse}
+use Rattle.lists.specs.Lists.{any, tab}
 use Rattle.lists.proofs.Laws.{length-tab}
-use Rattle.lists.proofs.Tabs.{or-parts, any-at, map-tab}
+use Rattle.lists.proofs.Tabs.{or-parts, any-at}
 use Rattle.calendar.specs.declared.Years.{Years}
 use Rattle.calendar.specs.Spans.{among}
 use Rattle.text.specs.Fields.{upTo, past, restAt, fieldAt}
 use Rattle.text.specs.Numbers.{most, valueOf, isDash}
 use Rattle.text.proofs.Laws.{ltb-capped}
-use Rattle.meaning.specs.Line.{Line, Tag, C, P, tagOf, Form, number, numberOrDash, formsOf, inRange, someField, numberAt, yearOn, valueAt, pointOf, mostPower, mostProfile}
+use Rattle.meaning.specs.Line.{Line, Tag, C, P, tagOf, Form, number, numberOrDash, formsOf, inRange, someField, numberAt, yearOn, valueAt, mostPower, mostProfile}
 use Rattle.meaning.specs.Refusals.{isMalformed, isOutside}
-use Rattle.meaning.specs.Blocks.{missingPoint, codeOfPoint}
-use Rattle.meaning.specs.Calls.{pointCodes, profileValues}
+use Rattle.meaning.specs.Blocks.{missingPoint}
 use Rattle.intake.specs.Reads.{cappedAt}
 use Rattle.fields.proofs.Told.{rest-suc}
 use Rattle.intake.proofs.Forms.{malformed}
-use Rattle.intake.proofs.Capped.{Early, not-leb, above-capped, above-exact}
+use Rattle.intake.proofs.Capped.{Early, not-leb, above-capped}
 use Rattle.intake.proofs.Checks.{either, year-off, year-exact}
 use Rattle.values.specs.Codes.{dash, pointRow, profileRow, isPointOutside, isProfileOutside, storedPoint}
 use Rattle.values.specs.Reads.{dateReadOf}

@@ -1,5 +1,4 @@
 use borrow.Author.Needs.{needs}
-use mathlib.Core.Path.{_≡_, refl}
 use Rattle.begun.proofs.is_whole.Statement.{statement}
 use Rattle.begun.proofs.is_whole.Tie as tie
 

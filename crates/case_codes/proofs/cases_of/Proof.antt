@@ -1,13 +1,11 @@
-use mathlib.Core.Path.{_≡_, refl, ap, sym, _∙_}
-use mathlib.Core.Bool.{Bool}
-use Prim.Native.Nat.{ℕ, _+_, _-_, _≤_, _<_}
+use mathlib.Core.Path.{_≡_, refl, ap, _∙_}
+use Prim.Native.Nat.{ℕ, _-_, _≤_}
 use borrow.Author.Needs.{needs}
 use native.Mathlib.Omega.{arith}
-use lib.ListN.{length, getD, set, length-set}
+use lib.ListN.{length, set}
 use Rattle.lists.specs.Lists.{tab}
 use Rattle.lists.proofs.Laws.{length-tab}
-use Rattle.meaning.specs.Cases.{mark}
-use Rattle.cases.specs.Cases.{isSet, codeOfCase, caseWith, caseCodes}
+use Rattle.cases.specs.Cases.{isSet, codeOfCase, caseCodes}
 use Rattle.case_codes.proofs.Marks.{case-in, codeUpTo, code-on}
 use Rattle.case_codes.proofs.cases_of.Statement.{statement}
 use Rattle.case_codes.proofs.cases_of.Tie as tie

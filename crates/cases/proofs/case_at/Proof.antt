@@ -1,4 +1,3 @@
-use mathlib.Core.Path.{_≡_, sym}
 use borrow.Author.Tests.{ne-eqb}
 use Rattle.cases.specs.Cases.{caseOfCode}
 use Rattle.cases.proofs.case_at.Statement.{statement}

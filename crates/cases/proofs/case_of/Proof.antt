@@ -1,4 +1,3 @@
-use mathlib.Core.Path.{_≡_, sym}
 use Rattle.meaning.specs.Cases.{curveCase, indexCase}
 use Rattle.cases.specs.Cases.{caseWith}
 use Rattle.cases.proofs.case_of.Statement.{statement}

@@ -1,15 +1,14 @@
-use mathlib.Core.Path.{_≡_, refl, ap, sym, _∙_}
+use mathlib.Core.Path.{_≡_, ap}
 use mathlib.Core.List.{map}
 use borrow.Author.Needs.{needs}
 use native.Mathlib.Omega.{arith}
-use Prim.Native.Nat.{ℕ, _+_, _-_, _*_, _≤_}
+use Prim.Native.Nat.{_+_, _-_, _*_, _≤_}
 use lib.ListN.{length, drop, getD}
 use Rattle.lists.specs.Lists.{sum}
 use Rattle.lists.proofs.Walks.{sum-on, sum-end}
 use Rattle.note.specs.Peaks.{peakCount, peakDays}
 use Rattle.note.proofs.PeakDays.{days-length, most-days}
 use Rattle.meaning.specs.Validity.{expectedPoints}
-use Rattle.curves.specs.declared.Counts.{Counts}
 use Rattle.curves.specs.Availability.{thereOnDay, thereIn, availabilityOf}
 use Rattle.curves.proofs.Parts.{day-most}
 use Rattle.curves.proofs.availability.Statement.{statement}

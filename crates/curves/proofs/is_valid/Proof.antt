@@ -1,9 +1,9 @@
-use mathlib.Core.Path.{_≡_, refl, ap, sym, _∙_}
+use mathlib.Core.Path.{ap}
 use borrow.Author.Needs.{needs}
 use native.Mathlib.Omega.{arith}
-use Rattle.meaning.specs.Validity.{expectedPoints, enough}
+use Rattle.meaning.specs.Validity.{enough}
 use Rattle.curves.specs.declared.Counts.{Counts}
-use Rattle.curves.specs.Availability.{thereIn, availabilityOf, validRow}
+use Rattle.curves.specs.Availability.{availabilityOf, validRow}
 use Rattle.curves.proofs.Parts.{year-most, expected-most}
 use Rattle.curves.proofs.is_valid.Statement.{statement}
 use Rattle.curves.proofs.is_valid.Tie as tie

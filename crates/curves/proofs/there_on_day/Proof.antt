@@ -1,11 +1,9 @@
-use mathlib.Core.Path.{_≡_, refl, sym, _∙_}
+use mathlib.Core.Path.{_≡_, sym, _∙_}
 use mathlib.Core.Logic.{⊎-elim}
-use borrow.Author.Needs.{needs}
 use native.Mathlib.Omega.{arith}
-use Prim.Native.Nat.{ℕ, _+_, _-_, _≤_}
+use Prim.Native.Nat.{_+_, _-_, _≤_}
 use Rattle.lists.specs.Lists.{count, range}
 use Rattle.lists.proofs.Walks.{count-here, count-not, count-end}
-use Rattle.meaning.specs.Validity.{halfHours}
 use Rattle.curves.specs.Availability.{isThere, thereOnDay}
 use Rattle.curves.proofs.there_on_day.Statement.{statement}
 use Rattle.curves.proofs.there_on_day.Tie as tie

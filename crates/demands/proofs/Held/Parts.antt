@@ -1,7 +1,7 @@
 -- What it is for a record, and for record and blocks, to hold a file's lines.
 use mathlib.Core.Path.{_≡_}
 use mathlib.Core.List.{List, []}
-use Prim.Native.Nat.{ℕ, _≤_}
+use Prim.Native.Nat.{_≤_}
 use lib.Dec.{T, leb}
 use lib.ListN.{length}
 use Rattle.lists.specs.Lists.{Each}

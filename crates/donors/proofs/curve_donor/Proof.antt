@@ -1,7 +1,4 @@
-use mathlib.Core.Path.{_≡_, sym}
-use Rattle.meaning.specs.Blocks.{slotAt, pointOfCode}
-use Rattle.meaning.specs.Points.{ownOf, readBy}
-use Rattle.own_points.specs.Fits.{isPoint}
+use Rattle.meaning.specs.Blocks.{slotAt}
 use Rattle.own_points.specs.Given.{codeIn, readIn}
 use Rattle.donors.proofs.Given.{not-given, is-given}
 use borrow.Author.Needs.{needs}

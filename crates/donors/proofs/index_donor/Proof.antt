@@ -1,4 +1,3 @@
-use mathlib.Core.Path.{_≡_, sym}
 use mathlib.Core.Option.{some}
 use Rattle.meaning.specs.Points.{ownOf, byProfile}
 use Rattle.own_points.specs.Given.{profileIn}

@@ -1,4 +1,3 @@
-use mathlib.Core.Path.{_≡_, refl, sym}
 use native.Mathlib.Omega.{arith}
 use Rattle.donors.specs.Sums.{withDonor}
 use borrow.Author.Needs.{needs}

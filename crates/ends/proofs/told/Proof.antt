@@ -1,6 +1,5 @@
-use mathlib.Core.Path.{_≡_, refl}
-use Rattle.shown.specs.Shown.{Holds}
-use Rattle.ends.specs.Ends.{textTold, Tells}
+use mathlib.Core.Path.{refl}
+use Rattle.ends.specs.Ends.{textTold}
 use borrow.Author.Needs.{needs}
 use Rattle.ends.proofs.told.Statement.{statement}
 use Rattle.ends.proofs.told.Tie as tie

@@ -1,6 +1,6 @@
-use mathlib.Core.Path.{_≡_, ap, sym, _∙_}
-use Prim.Native.Nat.{ℕ, _+_, _*_, _<_, _≤_}
-use lib.ListN.{length, getD, List·getD-eq-default}
+use mathlib.Core.Path.{ap, sym, _∙_}
+use Prim.Native.Nat.{ℕ, _+_, _*_}
+use lib.ListN.{getD, List·getD-eq-default}
 use Rattle.note.proofs.Table.{default}
 use Rattle.meaning.specs.Blocks.{missingPoint, slotAt}
 use Rattle.own_points.specs.Given.{codeIn}

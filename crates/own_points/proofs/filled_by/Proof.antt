@@ -1,4 +1,3 @@
-use mathlib.Core.Path.{_≡_, refl, sym}
 use borrow.Author.Needs.{needs}
 use Rattle.own_points.proofs.filled_by.Statement.{statement}
 use Rattle.own_points.proofs.filled_by.Tie as tie

@@ -1,12 +1,10 @@
-use mathlib.Core.Path.{_≡_, sym, ap, _∙_}
-use mathlib.Core.Bool.{true}
+use mathlib.Core.Path.{_≡_, sym, _∙_}
 use native.Mathlib.Omega.{arith}
 use borrow.Author.Tests.{lt-ltb}
 use Prim.Native.Nat.{ℕ, _<_}
 use lib.ListN.{getD}
 use Rattle.note.specs.Peaks.{peakDays, peakCount}
-use Rattle.note.specs.Answers.{peakDay, pickDay}
-use Rattle.note.specs.declared.peaks.PeakDay.{PeakDay}
+use Rattle.note.specs.Answers.{peakDay}
 use Rattle.note.specs.declared.peaks.PeakDay.the-variants.{Place, Nothing}
 use Rattle.note.proofs.PeakDays.{in-winter}
 use borrow.Author.Needs.{needs}

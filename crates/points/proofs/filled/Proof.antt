@@ -1,6 +1,6 @@
-use mathlib.Core.Path.{_≡_, refl, ap, sym, subst, _∙_}
+use mathlib.Core.Path.{_≡_, refl, subst}
 use mathlib.Core.Logic.{_⊎_, ⊎-elim}
-use Prim.Native.Nat.{ℕ, _+_, _≤_, _<_}
+use Prim.Native.Nat.{ℕ, _+_}
 use native.Mathlib.Omega.{arith}
 use denote.Enum.Declared.{tagOf}
 use lib.ListN.{getD}
@@ -14,7 +14,7 @@ use Rattle.cases.specs.Cases.{meantCase}
 use Rattle.own_points.specs.Given.{codeIn, readIn, profiledOn}
 use Rattle.donors.specs.Given.{curveGiven, indexGiven}
 use Rattle.points.specs.Sources.{Day, day, curveDonorsIn, indexDonorsIn, defaultIn, sourceIn}
-use Rattle.own_points.specs.Fits.{isPoint, FilledIs}
+use Rattle.own_points.specs.Fits.{FilledIs}
 use Rattle.donors.proofs.Gathered.{fit-more, rebuilt-filled}
 use borrow.Author.Needs.{needs}
 use Rattle.points.proofs.filled.Statement.{statement}

@@ -1,10 +1,8 @@
-use mathlib.Core.Path.{_≡_, refl, sym, _∙_}
-use mathlib.Core.List.{[], _∷_, append-assoc}
+use mathlib.Core.List.{[], _∷_}
 use borrow.Author.Needs.{needs}
 use native.Mathlib.Omega.{arith}
 use lib.ListN.{length}
 use Rattle.meaning.specs.Text.{tabbed, refusalLine}
-use Rattle.printed.specs.Put.{Put}
 use Rattle.printed.proofs.Chains.{put-one, put-length, put-then, tabbed-length}
 use Rattle.printed.proofs.put_refusal.Statement.{statement}
 use Rattle.printed.proofs.put_refusal.Tie as tie

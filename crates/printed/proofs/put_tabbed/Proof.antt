@@ -1,4 +1,3 @@
-use mathlib.Core.Path.{_≡_, refl, sym, _∙_}
 use mathlib.Core.List.{[], _∷_}
 use borrow.Author.Needs.{needs}
 use native.Mathlib.Omega.{arith}
@@ -6,7 +5,6 @@ use lib.ListN.{length}
 use Rattle.digits.specs.Digits.{digitsOf}
 use Rattle.digits.proofs.Digits.{digits-length}
 use Rattle.meaning.specs.Text.{tabbed}
-use Rattle.printed.specs.Put.{Put}
 use Rattle.printed.proofs.Chains.{put-one, put-length, put-then}
 use Rattle.printed.proofs.put_tabbed.Statement.{statement}
 use Rattle.printed.proofs.put_tabbed.Tie as tie

@@ -1,10 +1,8 @@
-use mathlib.Core.Path.{_≡_, refl, sym, _∙_}
-use mathlib.Core.List.{[], _∷_, append-assoc}
+use mathlib.Core.List.{[], _∷_}
 use borrow.Author.Needs.{needs}
 use native.Mathlib.Omega.{arith}
 use lib.ListN.{length}
 use Rattle.meaning.specs.Text.{tabbed, yearText}
-use Rattle.printed.specs.Put.{Put}
 use Rattle.printed.proofs.Chains.{put-one, put-length, put-then, tabbed-length}
 use Rattle.printed_report.proofs.put_year.Statement.{statement}
 use Rattle.printed_report.proofs.put_year.Tie as tie

@@ -1,4 +1,3 @@
-use mathlib.Core.Path.{_≡_, refl, sym, _∙_}
 use native.Mathlib.Omega.{arith}
 use Rattle.printed.proofs.Chains.{put-length, put-then}
 use Rattle.shown.specs.Shown.{sheetText}

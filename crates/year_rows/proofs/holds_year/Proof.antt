@@ -1,5 +1,5 @@
 use borrow.Author.Needs.{needs}
-use borrow.Author.Tests.{lt-ltb, le-leb, lt-leb}
+use borrow.Author.Tests.{le-leb, lt-leb}
 use Rattle.year_rows.specs.Rows.{holdsYear}
 use Rattle.year_rows.proofs.holds_year.Statement.{statement}
 use Rattle.year_rows.proofs.holds_year.Tie as tie

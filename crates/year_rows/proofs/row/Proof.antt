@@ -1,10 +1,10 @@
-use mathlib.Core.Path.{_≡_, refl, sym, _∙_}
+use mathlib.Core.Path.{sym, _∙_}
 use borrow.Author.Needs.{needs}
 use borrow.Author.Tests.{le-leb, lt-leb, not-true, not-false}
 use native.Mathlib.Omega.{arith}
-use Prim.Native.Nat.{_+_, _-_, _*_}
+use Prim.Native.Nat.{_-_}
 use Rattle.meaning.specs.Blocks.{isNear, nearStart, farStart}
-use Rattle.year_rows.specs.Rows.{holdsYear, rowOf}
+use Rattle.year_rows.specs.Rows.{rowOf}
 use Rattle.year_rows.proofs.Parts.{held, truth}
 use Rattle.year_rows.proofs.row.Statement.{statement}
 use Rattle.year_rows.proofs.row.Tie as tie

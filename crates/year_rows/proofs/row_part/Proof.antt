@@ -1,8 +1,7 @@
-use mathlib.Core.Path.{_≡_, refl, sym, _∙_}
+use mathlib.Core.Path.{_≡_, sym}
 use borrow.Author.Needs.{needs}
 use native.Mathlib.Omega.{arith}
 use Prim.Native.Nat.{_+_, _-_, _*_}
-use lib.ListN.{length}
 use Rattle.year_rows.specs.Rows.{part}
 use Rattle.year_rows.proofs.Parts.{part-none, part-short}
 use Rattle.year_rows.proofs.row_part.Statement.{statement}

@@ -1,12 +1,11 @@
-use mathlib.Core.Path.{_≡_, refl, ap, sym, _∙_}
+use mathlib.Core.Path.{_≡_, ap, _∙_}
 use mathlib.Core.List.{List}
 use Prim.Native.Nat.{ℕ, _+_, _-_, _*_, _≤_, _<_}
 use borrow.Author.Needs.{needs}
 use native.Mathlib.Omega.{arith}
-use lib.ListN.{length, getD, set, length-set}
-use lib.Seq.{sets}
+use lib.ListN.{getD}
 use Rattle.lists.specs.Lists.{tab, sum as List·sum}
-use Rattle.lists.proofs.Turns.{set-on, set-end, tab-on, tab-end}
+use Rattle.lists.proofs.Turns.{tab-on, tab-end}
 use Rattle.years.specs.Years.{casSum}
 use Rattle.ca_sums.proofs.factors.cas_sum.Statement.{statement}
 use Rattle.ca_sums.proofs.factors.cas_sum.Tie as tie

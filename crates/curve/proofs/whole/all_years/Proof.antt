@@ -1,16 +1,12 @@
-use mathlib.Core.Path.{_≡_, refl, sym, ap, subst, _∙_}
-use mathlib.Core.List.{List}
-use Prim.Native.Nat.{ℕ, _+_, _-_, _*_, _≤_, _<_}
+use mathlib.Core.Path.{_≡_, refl}
+use Prim.Native.Nat.{_-_, _≤_}
 use borrow.Author.Needs.{needs}
 use native.Mathlib.Omega.{arith}
-use lib.ListN.{length, getD, set}
-use Rattle.lists.proofs.Laws.{length-tab}
+use lib.ListN.{length, getD}
 use Rattle.cases.specs.Cases.{meantCase, caseOfCode}
 use Rattle.tallies.specs.Tallies.{plus}
-use Rattle.places.specs.Places.{heldWith, placesIn}
+use Rattle.places.specs.Places.{heldWith}
 use Rattle.curve.specs.Places.{placesOf, allPlacesIn, presentYears, fillingOf, curveEntryIn, curveIn}
-use Rattle.places.specs.Fits.{Entered}
-use Rattle.curve.specs.Fits.{Filled}
 use Rattle.curve.proofs.Years.{year-length, YearsWalked, no-years, years-on, years-over, present-length}
 use Rattle.curve.proofs.whole.all_years.Statement.{statement}
 use Rattle.curve.proofs.whole.all_years.Tie as tie

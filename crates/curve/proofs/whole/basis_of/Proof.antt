@@ -1,11 +1,6 @@
-use mathlib.Core.Path.{_≡_, refl, sym, ap, subst, _∙_}
-use Prim.Native.Nat.{ℕ}
-use native.Mathlib.Omega.{arith}
-use Rattle.own_points.specs.declared.Basis.{Basis}
-use Rattle.years.specs.Years.{casSum, casFrom}
-use Rattle.points.specs.Fits.{BasisFits}
+use mathlib.Core.Path.{ap, _∙_}
+use Rattle.years.specs.Years.{casSum}
 use Rattle.curve.specs.Places.{basisOf}
-use Rattle.curve.specs.Fits.{BasisIs}
 use Rattle.curve.proofs.Sites.{basis-fits, cas-most}
 use borrow.Author.Needs.{needs}
 use Rattle.curve.proofs.whole.basis_of.Statement.{statement}

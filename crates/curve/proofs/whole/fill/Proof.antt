@@ -1,9 +1,4 @@
-use mathlib.Core.Path.{_≡_, refl, sym, ap, _∙_}
-use Rattle.years.specs.Years.{casFrom}
 use Rattle.places.specs.Places.{held}
-use Rattle.curve.specs.Places.{basisOf}
-use Rattle.places.specs.Fits.{HeldFits}
-use Rattle.curve.specs.Fits.{Filled}
 use Rattle.curve.proofs.Sites.{held-fits}
 use borrow.Author.Needs.{needs}
 use Rattle.curve.proofs.whole.fill.Statement.{statement}

@@ -1,4 +1,3 @@
-use mathlib.Core.Path.{_≡_, sym}
 use borrow.Author.Needs.{needs}
 use Rattle.curve.proofs.whole.marks_of.Statement.{statement}
 use Rattle.curve.proofs.whole.marks_of.Tie as tie

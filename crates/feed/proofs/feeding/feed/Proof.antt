@@ -1,5 +1,4 @@
-use mathlib.Core.Path.{_≡_, ap, sym, _∙_}
-use mathlib.Core.List.{[]}
+use mathlib.Core.Path.{ap, sym, _∙_}
 use borrow.Author.Needs.{needs}
 use Rattle.pieces.specs.Run as meant
 use Rattle.pieces.specs.Run.{fed}

@@ -1,8 +1,7 @@
 use mathlib.Core.Path.{_≡_, refl, sym, _∙_}
-use mathlib.Core.Logic.{inl, inr}
 use borrow.Author.Needs.{needs}
 use native.Mathlib.Omega.{arith}
-use Prim.Native.Nat.{_+_, _-_, _≤_}
+use Prim.Native.Nat.{_-_, _≤_}
 use lib.ListN.{length, length-set}
 use Rattle.text.proofs.Laws.{rest-past}
 use Rattle.fields.proofs.Told.{Told, told-none, strange-field, shape-on, value-on, told-on, length-here, last-field, too-many, strange-line, empty-line, long-line}

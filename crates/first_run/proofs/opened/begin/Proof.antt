@@ -1,7 +1,7 @@
-use mathlib.Core.Path.{_≡_, ap, _∙_}
+use mathlib.Core.Path.{ap, _∙_}
 use mathlib.Core.List.{[]}
 use borrow.Author.Needs.{needs}
-use Rattle.meaning.specs.Calls.{Out, openingOf}
+use Rattle.meaning.specs.Calls.{Out}
 use Rattle.pieces.specs.Run.{runOf, started}
 use Rattle.first_run.proofs.opened.begin.Statement.{statement}
 use Rattle.first_run.proofs.opened.begin.Tie as tie

@@ -1,10 +1,5 @@
-use mathlib.Core.Path.{_≡_}
 use borrow.Author.Needs.{needs}
 use lib.ListN.{length}
-use mathlib.Core.Bool.{_&&_}
-use Rattle.meaning.specs.Record.{recFits}
-use Rattle.steps.specs.Views.{recOf}
-use Rattle.early.specs.Stops.{lengthsFit, earlyStop}
 use Rattle.hearing.proofs.Calls.{unheard-line, fits-open, few, line-sizes, placed, heard-line}
 use Rattle.hearing.proofs.lines.hear_line.Statement.{statement}
 use Rattle.hearing.proofs.lines.hear_line.Tie as tie

@@ -1,10 +1,10 @@
-use mathlib.Core.Path.{_≡_, refl, sym, _∙_}
+use mathlib.Core.Path.{_≡_, refl, _∙_}
 use mathlib.Core.List.{map}
 use borrow.Author.Needs.{needs}
 use native.Mathlib.Omega.{arith}
 use Prim.Native.Nat.{_-_, _+_, _≤_}
 use lib.ListN.{length, take, length-set}
-use lib.Seq.{sets, length-sets}
+use lib.Seq.{sets}
 use Rattle.point_rows.specs.Stores.{pointCode}
 use Rattle.point_rows.proofs.Runs.{stored-on, stored-all}
 use Rattle.point_rows.proofs.stores.store_points.Statement.{statement}

@@ -1,4 +1,3 @@
-use mathlib.Core.Path.{_≡_, refl, sym, _∙_}
 use borrow.Author.Needs.{needs}
 use Rattle.sheet.proofs.finishing.has_last.Statement.{statement}
 use Rattle.sheet.proofs.finishing.has_last.Tie as tie

@@ -1,6 +1,5 @@
 use mathlib.Core.Path.{ap}
 use borrow.Author.Needs.{needs}
-use borrow.Author.Tests.{not-false}
 use Rattle.meaning.specs.Record.{Rec, freshRec}
 use Rattle.meaning.specs.Calls.{out, took, leaves}
 use Rattle.site.specs.Views.{openedBy}

@@ -1,4 +1,4 @@
-use mathlib.Core.Path.{_≡_, sym, _∙_}
+use mathlib.Core.Path.{sym, _∙_}
 use native.Mathlib.Omega.{arith}
 use Rattle.calendar.proofs.Laws.{winter-date-at, winter-date-nowhere, winter-parts}
 use mathlib.Core.Logic.{⊎-elim}

@@ -1,4 +1,3 @@
-use mathlib.Core.Path.{_≡_, sym}
 use Rattle.years.specs.Years.{yearsOn}
 use borrow.Author.Needs.{needs}
 use Rattle.years.proofs.days.day_of.Statement.{statement}
