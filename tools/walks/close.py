@@ -13,7 +13,7 @@ D=dict(
   ),
   imports=['use Rattle.meaning.specs.Calls.{closeOf}','use Rattle.readings.specs.Readings.{seen, columnsOf}','use Rattle.readings.specs.Columns.{world}','use Rattle.readings.specs.Lent.{EachColumns}','use Rattle.meaning.specs.Blocks.{World}','use Rattle.ended.specs.Ends.{endsBack, handed}','use Rattle.site.specs.Views.{view, closesBack}'],
   calls=[
-    dict(fn='columns_of',al='columns-of',Name='ColumnsOf',n='₁',mod='Rattle.readings.proofs.columns_of',key='#readings·columns-of',
+    dict(fn='columns_of',al='columns-of',Name='ColumnsOf',n='₁',mod='Rattle.reading_list.proofs.columns_of',key='#reading-list·columns-of',
       args=[('ref','readings')],res='B',fact='{r} ≡ columnsOf (readings .now)'),
     dict(fn='shut',al='shut',Name='Shut',n='',mod=OWN+'whole.shut',key='#site·whole·shut',
       binds=[('k','Columns'),('v','Val')],proofs=[('k-is','Is B.the-row k (v ∷ [])')],

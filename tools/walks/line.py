@@ -19,7 +19,7 @@ D=dict(
     dict(fn='hear',al='hear',Name='Hear',n='',mod=OWN+'whole.hear',key='#site·whole·hear',
       args=[('plain','T','self','self-is'),('ref','line'),('ref','near'),('ref','far'),('ref','slots'),('ref','daily'),('plain','usize','length (readings .now)','room-readings .0'),('plain','usize','length (curve .now)','room-curve .0')],
       res='S',apart=True,fact=FACT),
-    dict(fn='put',al='put',Name='PutR',n='₁',mod='Rattle.readings.proofs.put',key='#readings·put',
+    dict(fn='put',al='put',Name='PutR',n='₁',mod='Rattle.reading_list.proofs.put',key='#reading-list·put',
       binds=[('r','Heard'),('w','Val')],proofs=[('is','Is S.the-row r (w ∷ [])')],
       args=[('ref','readings'),('plain','usize','r .slot',field(0)+' .1'),('plain','R','r .reading','(%s)'%field(1))],
       res='unit',fact='{readings} ≡ set (readings .now) (r .slot) (r .reading)',

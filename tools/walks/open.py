@@ -17,7 +17,7 @@ D=dict(
     dict(fn='open_blocks',al='open-blocks',Name='OpenBlocks',n='',mod='Rattle.opening.proofs.open_blocks',key='#opening·open-blocks',
       args=[('ref','near'),('ref','far'),('ref','slots'),('ref','daily'),('plain','usize','length (readings .now)','room-readings .0'),('ref','curve')],
       res='bool',fact=FACT),
-    dict(fn='set_fresh',al='set-fresh',Name='SetFresh',n='₁',mod='Rattle.readings.proofs.set_fresh',key='#readings·set-fresh',
+    dict(fn='set_fresh',al='set-fresh',Name='SetFresh',n='₁',mod='Rattle.reading_list.proofs.set_fresh',key='#reading-list·set-fresh',
       binds=[('r','Bool')],
       args=[('ref','readings'),('plain','bool','r','')],
       res='unit',fact='{readings} ≡ freshened r (readings .now)',

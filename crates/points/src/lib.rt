@@ -50,11 +50,14 @@ pub fn filled<'a>(
             totals[k],
         ),
         Case::T2 => {
-            donors::rebuilt(cas[k], donors::from_curves(b, near, far, curves, cas, w, h))
+            donors::rebuilt(
+                cas[k],
+                curve_donors::from_curves(b, near, far, curves, cas, w, h),
+            )
         }
         Case::T3 | Case::I5 => donors::rebuilt(
             cas[k],
-            donors::from_indexes(b, slots, energies, totals, givers, cas, w, h),
+            index_donors::from_indexes(b, slots, energies, totals, givers, cas, w, h),
         ),
         Case::T4 | Case::I6 => own_points::by_default(
             b,

@@ -26,8 +26,8 @@ use Rattle.own_points.proofs.code.Reads as code-reads
 use Rattle.own_points.proofs.measured.Reads as measured-reads
 use Rattle.own_points.proofs.profile.Reads as profile-reads
 use Rattle.own_points.proofs.profiled.Reads as profiled-reads
-use Rattle.donors.proofs.from_curves.Reads as from-curves-reads
-use Rattle.donors.proofs.from_indexes.Reads as from-indexes-reads
+use Rattle.curve_donors.proofs.from_curves.Reads as from-curves-reads
+use Rattle.index_donors.proofs.from_indexes.Reads as from-indexes-reads
 use Rattle.donors.proofs.rebuilt.Reads as rebuilt-reads
 
 -- ---- the cases that share a way, by the number of their variant

@@ -50,33 +50,33 @@ use denote.Triple.Table.{entered, cited}
 use denote.Triple.Walked.{says, Stays, stay-none-slice, walkOf, goes-none-slice, Walks, ends-at, walked, walk-meets}
 use denote.Exit.{yes}
 use Rattle.meaning.specs.Blocks.{letterOfKind}
 use Rattle.readings.specs.declared.Kind.{Kind}
 use Rattle.readings.specs.declared.Reading.{Reading}
 use Rattle.readings.specs.declared.Columns.{Columns}
 use Rattle.readings.specs.Readings.{kindView, fresh, letter, positionsOf, countsOf, lettersOf, columnsOf}
 use Rattle.readings.proofs.Kind as K
 use Rattle.readings.proofs.Kind.Laws as K′
 use Rattle.readings.proofs.Reading as T
 use Rattle.readings.proofs.Reading.Laws as T′
 use Rattle.readings.proofs.Columns as B
 use Rattle.readings.proofs.Columns.Laws as B′
-use Rattle.readings.proofs.Row.{R, vals, typed, position-fits, count-fits, kind-is, bytes-fit, place-of}
+use Rattle.reading_list.proofs.Row.{R, vals, typed, position-fits, count-fits, kind-is, bytes-fit, place-of}
 use Rattle.readings.proofs.Gone.{full, bare, gone}
-use Rattle.readings.proofs.Laid.{array, IsColumn, repeat-typed, column-typed, lays-out, picks-up}
-use Rattle.readings.proofs.Copied.{blank, blank-is, length-blank, copied, length-copied, within-copied, copied-all}
-use Rattle.readings.proofs.at_most as at-most
-use Rattle.readings.proofs.at_most.Symbol as at-most-def
-use Rattle.readings.proofs.at_most.Symbol.{name as #readings·at-most}
-use Rattle.readings.proofs.at_most.Met as at-most-thm
+use Rattle.reading_list.proofs.Laid.{array, IsColumn, repeat-typed, column-typed, lays-out, picks-up}
+use Rattle.reading_list.proofs.Copied.{blank, blank-is, length-blank, copied, length-copied, within-copied, copied-all}
+use Rattle.reading_list.proofs.at_most as at-most
+use Rattle.reading_list.proofs.at_most.Symbol as at-most-def
+use Rattle.reading_list.proofs.at_most.Symbol.{name as #reading-list·at-most}
+use Rattle.reading_list.proofs.at_most.Met as at-most-thm
 use Rattle.readings.proofs.letter_of as letter-of
 use Rattle.readings.proofs.letter_of.Symbol as letter-of-def
 use Rattle.readings.proofs.letter_of.Symbol.{name as #readings·letter-of}
 use Rattle.readings.proofs.letter_of.Met as letter-of-thm
-use Rattle.readings.proofs.columns_of.Key.{name as #readings·columns-of}
-use Rattle.readings.proofs.columns_of as f
-use Rattle.readings.proofs.columns_of.Statement as stated
-use Rattle.readings.proofs.columns_of.Code as code
-use Rattle.readings.proofs.columns_of.Code.Mir as pieces
+use Rattle.reading_list.proofs.columns_of.Key.{name as #reading-list·columns-of}
+use Rattle.reading_list.proofs.columns_of as f
+use Rattle.reading_list.proofs.columns_of.Statement as stated
+use Rattle.reading_list.proofs.columns_of.Code as code
+use Rattle.reading_list.proofs.columns_of.Code.Mir as pieces
 
 abbrev stayed : Stays (f.ended .signature .params) (f.ended .kept)
 stayed = (stay-none-slice (0 ∷ []) tt (plain (λ _. R)) yes, tt)
@@ -350,7 +350,7 @@ module _ {M : Type 1} (𝓤 : URA M) (H : Heap 𝓤) (A : Atoms 𝓤) (W : Given
     turns : (i : Upto) → Sq W (At i) (runs C Λ En pieces.turn-1 (anyQ (Turned i)))
     turns i = at-test i (ltb (i .0) m) refl
 
-  walk : (𝓣 : Tables 𝓤 H) → Triple 𝓤 (𝓣 .C #readings·at-most) (AtMost 𝓤 H A mem run) → Triple 𝓤 (𝓣 .C #readings·letter-of) (LetterOf 𝓤 H A mem run) → ent 𝓤 (onEntry 𝓤 H A f.signature (κ, tt) (q, tt) a at) (WpFn 𝓤 H (𝓣 .C) (𝓣 .Λ) code.function (s ∷ []) Post)
+  walk : (𝓣 : Tables 𝓤 H) → Triple 𝓤 (𝓣 .C #reading-list·at-most) (AtMost 𝓤 H A mem run) → Triple 𝓤 (𝓣 .C #readings·letter-of) (LetterOf 𝓤 H A mem run) → ent 𝓤 (onEntry 𝓤 H A f.signature (κ, tt) (q, tt) a at) (WpFn 𝓤 H (𝓣 .C) (𝓣 .Λ) code.function (s ∷ []) Post)
   walk 𝓣 known-most known =
       qed W ((‵ (flft κ q) ⊛ ‵ ftrue) ∷ ‵ (owns (ShrSlice (named 0) κ R ∷ []) a at) ∷ []) ∵
       -- the `&` is Copy: one copy of what it owns is kept for the exit, and of the other the fractured borrow is kept
@@ -383,11 +383,11 @@ module _ {M : Type 1} (𝓤 : URA M) (H : Heap 𝓤) (A : Atoms 𝓤) (W : Given
       first ! $ blocks ! $ loops ! 𝓣 Nearer Nearer-wf (At 𝓣 known q′ l₀ l₁ l₂ l₃ l₄ l₅ l₆ l₇ l₈ l₉ l₁₀ l₁₁ l₁₂ l₁₃ l₁₄ l₁₅ l₁₆ l₁₇ l₁₈ l₁₉ l₂₀ l₂₁ l₂₂) (turns 𝓣 known q′ l₀ l₁ l₂ l₃ l₄ l₅ l₆ l₇ l₈ l₉ l₁₀ l₁₁ l₁₂ l₁₃ l₁₄ l₁₅ l₁₆ l₁₇ l₁₈ l₁₉ l₂₀ l₂₁ l₂₂) (0, zero-le)))))))))))))))))))))))))))))
 
 module _ {M : Type 1} (𝓤 : URA M) (H : Heap 𝓤) (A : Atoms 𝓤) (W : Given 𝓤 H A) (mem : Memory → SProp 𝓤) (run : Routine → Fun 𝓤) where
-  walks : (𝓣 : Tables 𝓤 H) → Triple 𝓤 (𝓣 .C #readings·at-most) (AtMost 𝓤 H A mem run) → Triple 𝓤 (𝓣 .C #readings·letter-of) (LetterOf 𝓤 H A mem run) → Walks 𝓤 H A f.ended stayed (WpFn 𝓤 H (𝓣 .C) (𝓣 .Λ) code.function) (f.clauses 𝓤 H A mem run)
+  walks : (𝓣 : Tables 𝓤 H) → Triple 𝓤 (𝓣 .C #reading-list·at-most) (AtMost 𝓤 H A mem run) → Triple 𝓤 (𝓣 .C #readings·letter-of) (LetterOf 𝓤 H A mem run) → Walks 𝓤 H A f.ended stayed (WpFn 𝓤 H (𝓣 .C) (𝓣 .Λ) code.function) (f.clauses 𝓤 H A mem run)
   walks 𝓣 known-most known = walked 𝓤 H A f.ended stayed (f.clauses 𝓤 H A mem run) (WpFn 𝓤 H (𝓣 .C) (𝓣 .Λ) code.function) (λ κs. (slice-vals, tt)) (λ κs. (shr-slice-tells (named 0) (κs .0) R, tt))
       (λ κs qs bounds a g are. via 𝓤 _ (fst∗ 𝓤 _ (emp 𝓤)) (walk 𝓤 H A W mem run (κs .0) (qs .0) (a .0) (are .0 .0 .1) 𝓣 known-most known))
 
-meets : {M : Type 1} (𝓤 : URA M) (H : Heap 𝓤) (A : Atoms 𝓤) → Given 𝓤 H A → (mem : Memory → SProp 𝓤) (run : Routine → Fun 𝓤) (𝓣 : Tables 𝓤 H) → Triple 𝓤 (𝓣 .C #readings·at-most) (AtMost 𝓤 H A mem run) → Triple 𝓤 (𝓣 .C #readings·letter-of) (LetterOf 𝓤 H A mem run)
+meets : {M : Type 1} (𝓤 : URA M) (H : Heap 𝓤) (A : Atoms 𝓤) → Given 𝓤 H A → (mem : Memory → SProp 𝓤) (run : Routine → Fun 𝓤) (𝓣 : Tables 𝓤 H) → Triple 𝓤 (𝓣 .C #reading-list·at-most) (AtMost 𝓤 H A mem run) → Triple 𝓤 (𝓣 .C #readings·letter-of) (LetterOf 𝓤 H A mem run)
     → Meets 𝓤 H A f.signature (WpFn 𝓤 H (𝓣 .C) (𝓣 .Λ) code.function) (f.spec 𝓤 H A mem run)
 meets 𝓤 H A W mem run 𝓣 known-most known =
     walk-meets 𝓤 H A f.ended stayed W (goes-none-slice 𝓤 H A W 1 (0 ∷ []) tt (plain (λ _. R)) yes, tt)
@@ -397,7 +397,7 @@ pub columns-of-spec : {M : Type 1} → stated.statement M
 unfolding code.routine tablesOf
 columns-of-spec 𝓤 H 𝓜 𝓖 𝓡 =
     entered 𝓤 H (tripleOf 𝓤 H (𝓖 .A) f.signature (f.spec 𝓤 H (𝓖 .A) (𝓜 .mem) (𝓡 .run)))
-    (tables 𝓤 H 𝓜 𝓡 code.env .C) (tables 𝓤 H 𝓜 𝓡 code.env .Λ) #readings·columns-of code.function (code.unfolded 𝓤 H 𝓜 𝓡)
+    (tables 𝓤 H 𝓜 𝓡 code.env .C) (tables 𝓤 H 𝓜 𝓡 code.env .Λ) #reading-list·columns-of code.function (code.unfolded 𝓤 H 𝓜 𝓡)
     (meets 𝓤 H (𝓖 .A) (givenOf 𝓤 H 𝓜 𝓖) (𝓜 .mem) (𝓡 .run) (tablesOf 𝓤 H 𝓜 (tables 𝓤 H 𝓜 𝓡 code.env))
-    (cited 𝓤 H (AtMost 𝓤 H (𝓖 .A) (𝓜 .mem) (𝓡 .run)) 𝓜 𝓡 code.env #readings·at-most at-most-def.routine code.calls-readings·at-most (at-most-thm.met 𝓤 H 𝓜 𝓖 𝓡))
+    (cited 𝓤 H (AtMost 𝓤 H (𝓖 .A) (𝓜 .mem) (𝓡 .run)) 𝓜 𝓡 code.env #reading-list·at-most at-most-def.routine code.calls-reading-list·at-most (at-most-thm.met 𝓤 H 𝓜 𝓖 𝓡))
     (cited 𝓤 H (LetterOf 𝓤 H (𝓖 .A) (𝓜 .mem) (𝓡 .run)) 𝓜 𝓡 code.env #readings·letter-of letter-of-def.routine code.calls-readings·letter-of (letter-of-thm.met 𝓤 H 𝓜 𝓖 𝓡)))

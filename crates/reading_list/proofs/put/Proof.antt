@@ -40,19 +40,19 @@ use denote.Triple.Spec.{Meets, tripleOf}
 use denote.Triple.Table.{entered}
 use denote.Triple.Walked.{says, Stays, stay-slice, stay-none, walkOf, goes-slice, goes-none, Walks, ends-at, walked, walk-meets}
 use denote.Exit.{yes}
 use Rattle.readings.specs.declared.Reading.{Reading}
 use Rattle.readings.specs.Readings.{fresh}
 use Rattle.readings.proofs.Reading as T
 use Rattle.readings.proofs.Reading.Laws as T′
-use Rattle.readings.proofs.Row.{R, vals, mach, typed, bytes-fit, place-of}
+use Rattle.reading_list.proofs.Row.{R, vals, mach, typed, bytes-fit, place-of}
 use Rattle.readings.proofs.Laws.{put-past}
 use Rattle.readings.proofs.Kept.{slice-kept}
 use Rattle.readings.proofs.Gone.{gone}
-use Rattle.readings.proofs.put.Key.{name as #readings·put}
-use Rattle.readings.proofs.put as f
-use Rattle.readings.proofs.put.Statement as stated
-use Rattle.readings.proofs.put.Code as code
-use Rattle.readings.proofs.put.Code.Mir as pieces
+use Rattle.reading_list.proofs.put.Key.{name as #reading-list·put}
+use Rattle.reading_list.proofs.put as f
+use Rattle.reading_list.proofs.put.Statement as stated
+use Rattle.reading_list.proofs.put.Code as code
+use Rattle.reading_list.proofs.put.Code.Mir as pieces
 
 abbrev stayed : Stays (f.ended .signature .params) (f.ended .kept)
 stayed = (stay-slice (0 ∷ []) tt (plain (λ _. R)), (stay-none (λ _. usize) yes, (stay-none (λ _. R) yes, tt)))
@@ -160,5 +160,5 @@ pub put-spec : {M : Type 1} → stated.statement M
 unfolding code.routine tablesOf
 put-spec 𝓤 H 𝓜 𝓖 𝓡 =
     entered 𝓤 H (tripleOf 𝓤 H (𝓖 .A) f.signature (f.spec 𝓤 H (𝓖 .A) (𝓜 .mem) (𝓡 .run)))
-    (tables 𝓤 H 𝓜 𝓡 code.env .C) (tables 𝓤 H 𝓜 𝓡 code.env .Λ) #readings·put code.function (code.unfolded 𝓤 H 𝓜 𝓡)
+    (tables 𝓤 H 𝓜 𝓡 code.env .C) (tables 𝓤 H 𝓜 𝓡 code.env .Λ) #reading-list·put code.function (code.unfolded 𝓤 H 𝓜 𝓡)
     (meets 𝓤 H (𝓖 .A) (givenOf 𝓤 H 𝓜 𝓖) (𝓜 .mem) (𝓡 .run) (tablesOf 𝓤 H 𝓜 (tables 𝓤 H 𝓜 𝓡 code.env)))

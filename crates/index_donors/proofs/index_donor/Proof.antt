@@ -1,12 +1,12 @@
 use mathlib.Core.Option.{some}
 use Rattle.meaning.specs.Points.{ownOf, byProfile}
 use Rattle.own_points.specs.Given.{profileIn}
 use Rattle.donors.proofs.Given.{not-given, is-given}
 use borrow.Author.Needs.{needs}
-use Rattle.donors.proofs.index_donor.Statement.{statement}
-use Rattle.donors.proofs.index_donor.Tie as tie
-use Rattle.donors.proofs.index_donor.Reads as reads
-use Rattle.donors.proofs.index_donor.Lts as lts
+use Rattle.index_donors.proofs.index_donor.Statement.{statement}
+use Rattle.index_donors.proofs.index_donor.Tie as tie
+use Rattle.index_donors.proofs.index_donor.Reads as reads
+use Rattle.index_donors.proofs.index_donor.Lts as lts
 use Rattle.own_points.proofs.profile.Reads as profile-reads
 use Rattle.own_points.proofs.profiled.Reads as profiled-reads
 

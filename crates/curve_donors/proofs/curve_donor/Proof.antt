@@ -1,11 +1,11 @@
 use Rattle.meaning.specs.Blocks.{slotAt}
 use Rattle.own_points.specs.Given.{codeIn, readIn}
 use Rattle.donors.proofs.Given.{not-given, is-given}
 use borrow.Author.Needs.{needs}
-use Rattle.donors.proofs.curve_donor.Statement.{statement}
-use Rattle.donors.proofs.curve_donor.Tie as tie
-use Rattle.donors.proofs.curve_donor.Reads as reads
-use Rattle.donors.proofs.curve_donor.Lts as lts
+use Rattle.curve_donors.proofs.curve_donor.Statement.{statement}
+use Rattle.curve_donors.proofs.curve_donor.Tie as tie
+use Rattle.curve_donors.proofs.curve_donor.Reads as reads
+use Rattle.curve_donors.proofs.curve_donor.Lts as lts
 use Rattle.own_points.proofs.code.Reads as code-reads
 use Rattle.own_points.proofs.measured.Reads as measured-reads
 

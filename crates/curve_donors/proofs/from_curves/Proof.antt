@@ -3,16 +3,16 @@ use Prim.Native.Nat.{_-_, _≤_}
 use borrow.Author.Needs.{needs}
 use native.Mathlib.Omega.{arith}
 use lib.ListN.{getD}
 use Rattle.donors.specs.Sums.{donorsOf}
 use Rattle.donors.specs.Given.{curveGiven, donorsAmong}
 use Rattle.donors.specs.Fits.{DonorsFit}
 use Rattle.donors.proofs.Gathered.{joined, left, none-yet, gather-on, gathered, fit-on, fit-more}
-use Rattle.donors.proofs.from_curves.Statement.{statement}
-use Rattle.donors.proofs.from_curves.Tie as tie
-use Rattle.donors.proofs.from_curves.Reads as reads
-use Rattle.donors.proofs.from_curves.Lts as lts
-use Rattle.donors.proofs.curve_donor.Reads as curve-donor-reads
+use Rattle.curve_donors.proofs.from_curves.Statement.{statement}
+use Rattle.curve_donors.proofs.from_curves.Tie as tie
+use Rattle.curve_donors.proofs.from_curves.Reads as reads
+use Rattle.curve_donors.proofs.from_curves.Lts as lts
+use Rattle.curve_donors.proofs.curve_donor.Reads as curve-donor-reads
 use Rattle.donors.proofs.with_donor.Reads as with-donor-reads
 
 abbrev Inv-loop : tie.InvT-loop
 Inv-loop b near far curves cas w h n d₀ k₀ d k =

@@ -3,17 +3,17 @@ use Prim.Native.Nat.{_-_, _≤_}
 use borrow.Author.Needs.{needs}
 use native.Mathlib.Omega.{arith}
 use lib.ListN.{getD}
 use Rattle.donors.specs.Sums.{donorsOf}
 use Rattle.own_points.specs.Given.{profiledOn}
 use Rattle.donors.specs.Given.{indexGiven, donorsAmong}
 use Rattle.donors.specs.Fits.{DonorsFit}
 use Rattle.donors.proofs.Gathered.{joined, left, none-yet, gather-on, gathered, fit-on, fit-more}
-use Rattle.donors.proofs.from_indexes.Statement.{statement}
-use Rattle.donors.proofs.from_indexes.Tie as tie
-use Rattle.donors.proofs.from_indexes.Reads as reads
-use Rattle.donors.proofs.from_indexes.Lts as lts
-use Rattle.donors.proofs.index_donor.Reads as index-donor-reads
+use Rattle.index_donors.proofs.from_indexes.Statement.{statement}
+use Rattle.index_donors.proofs.from_indexes.Tie as tie
+use Rattle.index_donors.proofs.from_indexes.Reads as reads
+use Rattle.index_donors.proofs.from_indexes.Lts as lts
+use Rattle.index_donors.proofs.index_donor.Reads as index-donor-reads
 use Rattle.donors.proofs.with_donor.Reads as with-donor-reads
 
 abbrev Inv-loop : tie.InvT-loop
 Inv-loop slots energies totals givers cas w h n d₀ k₀ d k =

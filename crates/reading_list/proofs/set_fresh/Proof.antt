@@ -48,26 +48,26 @@ use denote.Triple.Clauses.{ensured, lasts}
 use denote.Triple.Table.{entered, cited}
 use denote.Triple.Walked.{says, Stays, stay-slice, stay-none, walkOf, goes-slice, goes-none, Walks, ends-at, walked, walk-meets}
 use denote.Exit.{yes}
 use Rattle.readings.specs.declared.Kind.the-variants.{E}
 use Rattle.readings.specs.declared.Reading.{Reading}
 use Rattle.readings.specs.Readings.{fresh}
 use Rattle.readings.proofs.Kind as K
 use Rattle.readings.proofs.Kind.Laws as K′
 use Rattle.readings.proofs.Reading as T
 use Rattle.readings.proofs.Reading.Laws as T′
-use Rattle.readings.proofs.Row.{R, vals, mach, typed, fresh-is, estimated-is, bytes-fit, place-of}
+use Rattle.reading_list.proofs.Row.{R, vals, mach, typed, fresh-is, estimated-is, bytes-fit, place-of}
 use Rattle.readings.proofs.Kept.{slice-kept}
 use Rattle.readings.proofs.Gone.{gone}
-use Rattle.readings.proofs.Fills.{upTo, up-more, up-length, count, count-le, up-all}
-use Rattle.readings.proofs.count_if as count-if
-use Rattle.readings.proofs.count_if.Symbol as count-if-def
-use Rattle.readings.proofs.count_if.Symbol.{name as #readings·count-if}
-use Rattle.readings.proofs.count_if.Met as count-if-thm
-use Rattle.readings.proofs.set_fresh.Key.{name as #readings·set-fresh}
-use Rattle.readings.proofs.set_fresh as f
-use Rattle.readings.proofs.set_fresh.Statement as stated
-use Rattle.readings.proofs.set_fresh.Code as code
-use Rattle.readings.proofs.set_fresh.Code.Mir as pieces
+use Rattle.reading_list.proofs.Fills.{upTo, up-more, up-length, count, count-le, up-all}
+use Rattle.reading_list.proofs.count_if as count-if
+use Rattle.reading_list.proofs.count_if.Symbol as count-if-def
+use Rattle.reading_list.proofs.count_if.Symbol.{name as #reading-list·count-if}
+use Rattle.reading_list.proofs.count_if.Met as count-if-thm
+use Rattle.reading_list.proofs.set_fresh.Key.{name as #reading-list·set-fresh}
+use Rattle.reading_list.proofs.set_fresh as f
+use Rattle.reading_list.proofs.set_fresh.Statement as stated
+use Rattle.reading_list.proofs.set_fresh.Code as code
+use Rattle.reading_list.proofs.set_fresh.Code.Mir as pieces
 
 abbrev stayed : Stays (f.ended .signature .params) (f.ended .kept)
 stayed = (stay-slice (0 ∷ []) tt (plain (λ _. R)), (stay-none (λ _. bool) yes, tt))
@@ -230,7 +230,7 @@ module _ {M : Type 1} (𝓤 : URA M) (H : Heap 𝓤) (A : Atoms 𝓤) (W : Given
     turns : (i : Upto) → Sq W (At i) (runs C Λ En pieces.turn-1 (anyQ (Turned i)))
     turns i = at-test i (ltb (i .0) m) refl
 
-  walk : (𝓣 : Tables 𝓤 H) → Triple 𝓤 (𝓣 .C #readings·count-if) (CountIf 𝓤 H A mem run) → ent 𝓤 (onEntry 𝓤 H A f.signature (κ, tt) (q, tt) a at) (WpFn 𝓤 H (𝓣 .C) (𝓣 .Λ) code.function (s ∷ vbool all ∷ []) Post)
+  walk : (𝓣 : Tables 𝓤 H) → Triple 𝓤 (𝓣 .C #reading-list·count-if) (CountIf 𝓤 H A mem run) → ent 𝓤 (onEntry 𝓤 H A f.signature (κ, tt) (q, tt) a at) (WpFn 𝓤 H (𝓣 .C) (𝓣 .Λ) code.function (s ∷ vbool all ∷ []) Post)
   walk 𝓣 known =
       qed W ((‵ (flft κ q) ⊛ ‵ ftrue) ∷ ‵ (owns (MutSlice (named 0) κ R ∷ bool ∷ []) a at) ∷ []) ∵ move ! (1 ∷ []) $ fsplit ! $ fsplit ! $ drop ! $ fsplit ! $ move ! (3 ∷ []) $ split ! $
       keep ! (2 ∷ 3 ∷ 0 ∷ []) $ enter ! (𝓣 .C) (𝓣 .Λ) code.function (s ∷ vbool all ∷ []) _ $
@@ -255,11 +255,11 @@ module _ {M : Type 1} (𝓤 : URA M) (H : Heap 𝓤) (A : Atoms 𝓤) (W : Given
       first ! $ blocks ! $ loops ! 𝓣 Nearer Nearer-wf (At 𝓣 l₀ l₁ l₂ l₃ l₄ l₅ l₆ l₇ l₈ l₉ l₁₀) (turns 𝓣 l₀ l₁ l₂ l₃ l₄ l₅ l₆ l₇ l₈ l₉ l₁₀) (0, zero-le))))))))))))))))
 
 module _ {M : Type 1} (𝓤 : URA M) (H : Heap 𝓤) (A : Atoms 𝓤) (W : Given 𝓤 H A) (mem : Memory → SProp 𝓤) (run : Routine → Fun 𝓤) where
-  walks : (𝓣 : Tables 𝓤 H) → Triple 𝓤 (𝓣 .C #readings·count-if) (CountIf 𝓤 H A mem run) → Walks 𝓤 H A f.ended stayed (WpFn 𝓤 H (𝓣 .C) (𝓣 .Λ) code.function) (f.clauses 𝓤 H A mem run)
+  walks : (𝓣 : Tables 𝓤 H) → Triple 𝓤 (𝓣 .C #reading-list·count-if) (CountIf 𝓤 H A mem run) → Walks 𝓤 H A f.ended stayed (WpFn 𝓤 H (𝓣 .C) (𝓣 .Λ) code.function) (f.clauses 𝓤 H A mem run)
   walks 𝓣 known = walked 𝓤 H A f.ended stayed (f.clauses 𝓤 H A mem run) (WpFn 𝓤 H (𝓣 .C) (𝓣 .Λ) code.function) (λ κs. (slice-vals, (bool-vals, tt))) (λ κs. (mut-slice-tells (named 0) (κs .0) R, (bool-tells, tt)))
       (λ κs qs bounds a g are. via 𝓤 _ (fst∗ 𝓤 _ (emp 𝓤)) (walk 𝓤 H A W mem run (κs .0) (qs .0) (a .0) (are .0 .0 .1) (a .1 .0) 𝓣 known))
 
-meets : {M : Type 1} (𝓤 : URA M) (H : Heap 𝓤) (A : Atoms 𝓤) → Given 𝓤 H A → (mem : Memory → SProp 𝓤) (run : Routine → Fun 𝓤) (𝓣 : Tables 𝓤 H) → Triple 𝓤 (𝓣 .C #readings·count-if) (CountIf 𝓤 H A mem run)
+meets : {M : Type 1} (𝓤 : URA M) (H : Heap 𝓤) (A : Atoms 𝓤) → Given 𝓤 H A → (mem : Memory → SProp 𝓤) (run : Routine → Fun 𝓤) (𝓣 : Tables 𝓤 H) → Triple 𝓤 (𝓣 .C #reading-list·count-if) (CountIf 𝓤 H A mem run)
     → Meets 𝓤 H A f.signature (WpFn 𝓤 H (𝓣 .C) (𝓣 .Λ) code.function) (f.spec 𝓤 H A mem run)
 meets 𝓤 H A W mem run 𝓣 known =
     walk-meets 𝓤 H A f.ended stayed W (goes-slice 𝓤 H A W 1 0 tt (plain (λ _. R)), (goes-none 𝓤 H A W 1 (λ _. bool) yes (λ κs x f. refl), tt))
@@ -269,6 +269,6 @@ pub set-fresh-spec : {M : Type 1} → stated.statement M
 unfolding code.routine tablesOf
 set-fresh-spec 𝓤 H 𝓜 𝓖 𝓡 =
     entered 𝓤 H (tripleOf 𝓤 H (𝓖 .A) f.signature (f.spec 𝓤 H (𝓖 .A) (𝓜 .mem) (𝓡 .run)))
-    (tables 𝓤 H 𝓜 𝓡 code.env .C) (tables 𝓤 H 𝓜 𝓡 code.env .Λ) #readings·set-fresh code.function (code.unfolded 𝓤 H 𝓜 𝓡)
+    (tables 𝓤 H 𝓜 𝓡 code.env .C) (tables 𝓤 H 𝓜 𝓡 code.env .Λ) #reading-list·set-fresh code.function (code.unfolded 𝓤 H 𝓜 𝓡)
     (meets 𝓤 H (𝓖 .A) (givenOf 𝓤 H 𝓜 𝓖) (𝓜 .mem) (𝓡 .run) (tablesOf 𝓤 H 𝓜 (tables 𝓤 H 𝓜 𝓡 code.env))
-    (cited 𝓤 H (CountIf 𝓤 H (𝓖 .A) (𝓜 .mem) (𝓡 .run)) 𝓜 𝓡 code.env #readings·count-if count-if-def.routine code.calls-readings·count-if (count-if-thm.met 𝓤 H 𝓜 𝓖 𝓡)))
+    (cited 𝓤 H (CountIf 𝓤 H (𝓖 .A) (𝓜 .mem) (𝓡 .run)) 𝓜 𝓡 code.env #reading-list·count-if count-if-def.routine code.calls-reading-list·count-if (count-if-thm.met 𝓤 H 𝓜 𝓖 𝓡)))

@@ -1,0 +1,4 @@
+pub mod Row
+pub mod Fills
+pub mod Copied
+pub mod Laid
