@@ -12,9 +12,10 @@ ghost use Rattle.intake.specs.Reads.{yearReadOf, rateReadOf, countReadOf};
 pub fn read_year(told: Fields) -> YearRead
     ensures { λ r. ⌜ Of told (λ l. r ≡ yearReadOf l) ⌝ }
 {
+    let year = told.values[1];
     YearRead {
         formed: is_number(told.shapes[1]),
-        year: told.values[1],
+        year,
     }
 }
 
@@ -33,8 +34,9 @@ pub fn read_rate(told: Fields) -> RateRead
 pub fn read_count(told: Fields) -> CountRead
     ensures { λ r. ⌜ Of told (λ l. r ≡ countReadOf l) ⌝ }
 {
+    let formed = is_number(told.shapes[1]);
     CountRead {
-        formed: is_number(told.shapes[1]),
+        formed,
         count: told.values[1],
     }
 }
