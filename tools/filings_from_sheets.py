@@ -1,7 +1,7 @@
 #!/usr/bin/env python3
-"""Fills crates/filings from a folder of NAME.filing and NAME.sheet: data/ and args hold the filings, stdout what the sheets say.
+"""Fills crates/filings from folders of NAME.filing and NAME.sheet: data/ and args hold the filings, stdout what the sheets say.
 
-The sheets come from a reading of the rules that shares nothing with the code. Usage: tools/filings_from_sheets.py FOLDER
+The sheets come from readings of the rules that share nothing with the code. Usage: tools/filings_from_sheets.py FOLDER...
 """
 import pathlib
 import shutil
@@ -11,10 +11,9 @@ CRATE = pathlib.Path(__file__).resolve().parent.parent / "crates" / "filings"
 
 
 def main() -> None:
-    folder = pathlib.Path(sys.argv[1])
-    filings = sorted(folder.glob("*.filing"))
+    filings = sorted((filing for folder in sys.argv[1:] for filing in pathlib.Path(folder).glob("*.filing")), key=lambda filing: filing.stem)
     if not filings:
-        sys.exit(f"no NAME.filing in {folder}")
+        sys.exit("no NAME.filing in the folders named")
     data = CRATE / "data"
     shutil.rmtree(data, ignore_errors=True)
     data.mkdir(parents=True)

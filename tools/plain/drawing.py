@@ -10,8 +10,12 @@ import sys
 
 from reading import PEAKS, WINTER, days_of, sheet_of
 
-# The smallest of the first 2,000 seeds for each refusal, and for each set of cases with its meter: FILINGS in compare.py's words.
-KEPT = []
+# Of the seeds up to 1,500 a small file for each set of cases, of 5 and of 10 years, and one for each refusal that a file can meet: seed and damage.
+KEPT = [
+    (639, 0), (482, 0), (192, 0), (732, 0), (893, 0), (232, 0), (1347, 0), (556, 0), (8, 0), (281, 0), (1328, 0), (52, 0), (696, 0), (428, 0), (453, 0),
+    (286, 0), (1380, 0), (840, 0), (567, 2), (1312, 2), (1312, 3), (59, 2), (108, 1), (108, 2), (734, 3), (483, 3), (498, 3), (535, 0), (84, 3), (510, 2),
+    (951, 1), (1312, 0), (1493, 0), (92, 0),
+]
 
 ODD = [
     "", "0", "00", "01", "-1", "+1", "1 ", " 1", "1.0", "a", "-", "--", "9" * 25, "13", "29", "30", "31", "32", "9", "10", "1000", "1001", "2016", "2020",
@@ -63,7 +67,7 @@ def draw_dates_of_readings(rng, axis):
         dates += [(year, m, d) for year in axis for m, d in [(3, 31), (4, 1), (7, 15), (10, 31), (11, 1), (12, 31)] if rng.random() < 0.3]
     else:
         count = {"none": 0, "many": rng.choice([50, 300, 600, 601]), "few": rng.choice([2, 5, 10, 30])}[style]
-        dates = rng.sample([date for year in axis for date in days_of(year)], count)
+        return sorted(rng.sample([date for year in axis for date in days_of(year)], count))
     return sorted(date for date in dates if rng.random() < 0.99)
 
 

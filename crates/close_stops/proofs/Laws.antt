@@ -17,9 +17,9 @@ use Rattle.meaning.specs.Record.{Rec, isTaken, isWithin, historyOfSite, history
 use Rattle.readings.specs.Columns.{readingsIn, world, worldIn, Columned}
 use Rattle.contents.specs.Contents.{contentsIn}
 use Rattle.contents.proofs.Laws.{contents-fit}
-use Rattle.early.specs.Stops.{lengthsFit, earlyStop}
+use Rattle.first_stops.specs.Stops.{lengthsFit, earlyStop}
 use Rattle.early.proofs.Gave.{al-given, filiere-given}
-use Rattle.early.proofs.Laws.{sized, by-lengths, parts}
+use Rattle.first_stops.proofs.Laws.{sized, by-lengths, parts}
 use Rattle.close_stops.specs.Stops.{allFit, closeStop}
 
 -- ---- what a record within its ranges has

@@ -8,7 +8,7 @@ use Rattle.meaning.specs.Blocks.{World}
 use Rattle.meaning.specs.Record.{Rec, recFits, contentsFit}
 use Rattle.steps.specs.declared.Progress.{Progress}
 use Rattle.steps.specs.Views.{recOf}
-use Rattle.early.specs.Stops.{lengthsFit}
+use Rattle.first_stops.specs.Stops.{lengthsFit}
 
 -- 1, by the lengths of the readings and the curve as they are lent, and the lists with the readings that columns hold
 unfoldable pub allFit : Rec → ℕ → ℕ → World → Bool

@@ -1,9 +1,9 @@
 // By number, and by what the record and the blocks hold.
 use contents::contents_fit;
 use early::given;
-use early::open_stop;
 use early::record_fits;
-use early::sizes_fit;
+use first_stops::open_stop;
+use first_stops::sizes_fit;
 use intake::both;
 use readings::Columns;
 use spans::axis;

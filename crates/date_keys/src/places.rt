@@ -4,7 +4,7 @@ use calendar::dates;
 use calendar::places::date_place;
 use calendar::places::winter_place;
 use intake::both;
-use spans::position;
+use positions::position;
 ghost use mathlib.Core.Path.{_≡_};
 ghost use Rattle.calendar.specs.Answers.{winterPlaceOf, positionIn};
 ghost use Rattle.calendar.specs.Spans.{historyYears, axisYears};

@@ -1,2 +1,1 @@
 pub mod Gave
-pub mod Laws

@@ -1,14 +1,14 @@
 // The early stops of a line.
-use crate::numbers::open_stop;
 use crate::ranges_of::record_fits;
-use crate::sizes::sizes_fit;
+use first_stops::open_stop;
+use first_stops::sizes_fit;
 use intake::both;
 use steps::Progress;
 ghost use mathlib.Core.Path.{_≡_};
 ghost use mathlib.Core.Bool.{_&&_};
 ghost use Rattle.meaning.specs.Record.{recFits};
 ghost use Rattle.steps.specs.Views.{recOf};
-ghost use Rattle.early.specs.Stops.{lengthsFit, earlyStop};
+ghost use Rattle.first_stops.specs.Stops.{lengthsFit, earlyStop};
 
 // Of a record by its parts, and the lengths of the lent blocks.
 pub fn line_stop(

@@ -27,8 +27,8 @@ use Rattle.closing.specs.Closes as file
 use Rattle.closing.specs.Closes.{FileFits, reportShown, closingMeant}
 use Rattle.closing.proofs.Calls.{filing-is, file-fits, close-of, close-unended, close-refuses, close-reports}
 use Rattle.answers.specs.declared.Answer.the-variants.{Refused, Reports}
-use Rattle.early.specs.Stops.{lengthsFit}
-use Rattle.early.proofs.Laws.{six, parts}
+use Rattle.first_stops.specs.Stops.{lengthsFit}
+use Rattle.first_stops.proofs.Laws.{six, parts}
 use Rattle.ended.specs.declared.Ended.{Ended}
 use Rattle.close_stops.specs.Stops.{allFit, closeStop}
 use Rattle.ended.specs.Ends.{Handed, hands, endsBack, noYears, answerShown, yearsBeside, handed, refusedOf, toldOf}

@@ -26,8 +26,8 @@ use Rattle.steps.specs.declared.Step.{Step}
 use Rattle.steps.specs.Views.{recOf, openRec, stepView}
 use Rattle.steps.specs.Steps.{lineBlocks, LineSizes, stepOf, answerOf, heard}
 use Rattle.steps.proofs.Calls.{on-axis, kind-told, line-heard}
-use Rattle.early.specs.Stops.{lengthsFit, earlyStop}
-use Rattle.early.proofs.Laws.{six, parts, not-early}
+use Rattle.first_stops.specs.Stops.{lengthsFit, earlyStop}
+use Rattle.first_stops.proofs.Laws.{six, parts, not-early}
 use Rattle.heard.specs.declared.Heard.{Heard}
 use Rattle.heard.specs.Heard.{hearsBack, unheardOf, heardOf}
 

@@ -3,10 +3,6 @@
 //
 // A line comes there once 2 and 3 have left it, so its tag is known. Each function looks at the line and at plain numbers, asks every check of its tag and
 // answers the number of the first that holds, 0 for none, with the numbers that an accepted line changes the record by.
-pub use checks::first;
-pub use checks::is_late;
-pub use checks::is_reached;
-pub use checks::is_within;
 use intake::Site;
 
 // S.

@@ -13,8 +13,8 @@ use Rattle.readings.specs.Readings.{seen, freshened}
 use Rattle.readings.specs.Columns.{world}
 use Rattle.readings.specs.Lent.{EachList}
 use Rattle.readings.proofs.Laws.{seen-length, seen-fresh}
-use Rattle.early.specs.Stops.{lengthsFit}
-use Rattle.early.proofs.Laws.{six}
+use Rattle.first_stops.specs.Stops.{lengthsFit}
+use Rattle.first_stops.proofs.Laws.{six}
 use Rattle.opening.specs.Opens.{Opens}
 
 module _ (near far slots daily curve : List ℕ) (n : ℕ) (fit : Bool) (e : fit ≡ lengthsFit (length near) (length far) (length slots) (length daily) n (length curve)) where

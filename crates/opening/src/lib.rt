@@ -1,5 +1,5 @@
 // Opening, on the lent blocks: all fresh where each has its size, else as they were.
-use early::sizes_fit;
+use first_stops::sizes_fit;
 use fresh_blocks::fills::fill_u16;
 use fresh_blocks::fills::fill_u32;
 use fresh_blocks::fills::fill_u64;

@@ -1,17 +1,17 @@
 // One line of a file.
-use dated_lines::daily_line;
-use dated_lines::points_line;
-use dated_lines::profiles_line;
-use dated_lines::reading_line;
+use axis_steps::daily_line;
+use axis_steps::reading_line;
+use end_steps::end_line;
+use end_steps::site_line;
 use intake::known_tag;
 use intake::read_fields;
-use plain_lines::break_line;
-use plain_lines::end_line;
-use plain_lines::rate_line;
-use plain_lines::site_line;
 use steps::Progress;
 use steps::Step;
 use steps::answer;
+use winter_steps::points_line;
+use winter_steps::profiles_line;
+use year_steps::break_line;
+use year_steps::rate_line;
 ghost use mathlib.Core.Path.{_≡_};
 ghost use mathlib.Core.Bool.{true};
 ghost use Rattle.meaning.specs.Record.{recFits};

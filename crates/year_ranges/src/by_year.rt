@@ -32,14 +32,17 @@ fn year_number_fits(what: Tally, year: u64, n: u64) -> bool
     }
 }
 
-// The number at a place of a tally, from the first year of the span on.
+// The number at a place of a tally, from the first year of the span on. 0 fits everywhere, and most are 0.
 fn place_number_fits(span: Years, what: Tally, k: usize, n: u64) -> bool
     requires { ⌜ span .first + span .count ≤ 9999 ⌝ }
     ensures { λ r. ⌜ r ≡ placeNumberFits span what k n ⌝ }
 {
+    if n == 0 {
+        return true;
+    }
     let row = k as u64;
     if span.count <= row {
-        return n == 0;
+        return false;
     }
     year_number_fits(what, span.first + row, n)
 }

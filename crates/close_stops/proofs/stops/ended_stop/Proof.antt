@@ -1,6 +1,6 @@
 use borrow.Author.Needs.{needs}
 use borrow.Author.Tests.{eq-eqb, ne-eqb}
-use Rattle.early.proofs.Laws.{not-early}
+use Rattle.first_stops.proofs.Laws.{not-early}
 use Rattle.close_stops.specs.Stops.{closeStop}
 use Rattle.close_stops.proofs.Laws.{stop-early}
 use Rattle.close_stops.proofs.stops.ended_stop.Statement.{statement}

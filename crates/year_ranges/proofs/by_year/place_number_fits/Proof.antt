@@ -1,12 +1,17 @@
+use mathlib.Core.Path.{sym}
 use borrow.Author.Needs.{needs}
-use borrow.Author.Tests.{lt-ltb, le-ltb}
+use borrow.Author.Tests.{lt-ltb, le-ltb, ne-eqb}
 use Rattle.year_ranges.specs.Ranges.{placeNumberFits}
+use Rattle.year_ranges.proofs.Zero.{zero-fits}
 use Rattle.year_ranges.proofs.by_year.place_number_fits.Statement.{statement}
 use Rattle.year_ranges.proofs.by_year.place_number_fits.Tie as tie
 
 returns : tie.Need-returns
+returns c = sym (rw (c .if1 .taken) (zero-fits _ _ _))
+
+returns-2 : tie.Need-returns-2
 unfolding placeNumberFits
-returns c = simp (le-ltb _ _ (c .if1 .taken))
+returns-2 c = simp (le-ltb _ _ (c .if2 .taken), ne-eqb _ _ (c .before .before .if1 .left))
 
 add-year-number-fits : tie.Need-add-year-number-fits
 add-year-number-fits c = search needs
@@ -14,10 +19,10 @@ add-year-number-fits c = search needs
 year-number-fits-requires : tie.Need-year-number-fits-requires
 year-number-fits-requires c κs = search needs
 
-returns-2 : tie.Need-returns-2
+returns-3 : tie.Need-returns-3
 unfolding placeNumberFits
-returns-2 c = rw (lt-ltb _ _ (c .before .before .if1 .left)) (c .year-number-fits .ensures)
+returns-3 c = rw (lt-ltb _ _ (c .before .before .if2 .left)) (c .year-number-fits .ensures)
 
 pub place-number-fits-spec : {M : Type 1} → statement M
 place-number-fits-spec =
-    tie.close (tie.spec returns add-year-number-fits year-number-fits-requires returns-2)
+    tie.close (tie.spec returns returns-2 add-year-number-fits year-number-fits-requires returns-3)
