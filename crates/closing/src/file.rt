@@ -89,7 +89,7 @@ pub fn close_file<'a>(
     let codes = m.codes;
     let mut filled = [MISSING; 4400];
     let f = filled_by(site, tallies, m, near, far, slots, &e, &totals, &mut filled);
-    report::lend(f.exceeds, &filled, curve);
+    lent_curve::lend(f.exceeds, &filled, curve);
     if f.exceeds {
         return report::refused(18);
     }

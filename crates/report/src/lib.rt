@@ -1,7 +1,6 @@
 // What the close of a file hands back: a refusal, or level, points, years and curve (document 01, Calls and the lines of a file).
 mod report;
 
-pub use report::lend;
 pub use report::refused;
 pub use report::reported;
 

@@ -1,8 +1,6 @@
 // What a close hands back.
 ghost use mathlib.Core.Path.{_≡_};
-ghost use mathlib.Core.Bool.{cond};
 ghost use Prim.Native.Nat.{_≤_, _<_, _*_};
-ghost use lib.ListN.{length};
 ghost use Rattle.meaning.specs.Text.{letterOfCase};
 ghost use Rattle.cases.specs.Cases.{meantCase};
 ghost use Rattle.report.specs.Rows.{rowIn, rowsIn, refusedBy, reportedBy};
@@ -88,26 +86,4 @@ pub fn reported(al: u64, filiere: u64, h: Years, codes: [u64; 10], f: Filling) -
         points: f.counted,
         years,
     }
-}
-
-fn copy(filled: &[u64; 4400], curve: &mut [u64])
-    requires { ⌜ (length (now filled) ≡ 4400) × (length (now curve) ≡ 4400) ⌝ }
-    ensures { λ r. ⌜ now (curve .exit) ≡ now (filled .entry) ⌝ }
-{
-    let mut i = 0;
-    while i < 4400 {
-        curve[i] = filled[i];
-        i += 1;
-    }
-}
-
-// The filled curve into the lent one, which stays as it was where a point exceeds.
-pub fn lend(exceeds: bool, filled: &[u64; 4400], curve: &mut [u64])
-    requires { ⌜ (length (now filled) ≡ 4400) × (length (now curve) ≡ 4400) ⌝ }
-    ensures { λ r. ⌜ now (curve .exit) ≡ cond exceeds (now (curve .entry)) (now (filled .entry)) ⌝ }
-{
-    if exceeds {
-        return;
-    }
-    copy(filled, curve);
 }

@@ -1,12 +1,12 @@
 use lib.Seq.{ext-getD}
-use Rattle.report.proofs.Copying.{copied-on}
+use Rattle.lent_curve.proofs.Copying.{copied-on}
 use borrow.Author.Needs.{needs}
 use mathlib.Core.Path.{_≡_, sym, _∙_}
 use Prim.Native.Nat.{ℕ, _-_, _≤_, _<_}
 use native.Mathlib.Omega.{arith}
 use lib.ListN.{length, getD, length-set}
-use Rattle.report.proofs.report.copy.Statement.{statement}
-use Rattle.report.proofs.report.copy.Tie as tie
+use Rattle.lent_curve.proofs.copy.Statement.{statement}
+use Rattle.lent_curve.proofs.copy.Tie as tie
 
 abbrev Inv-loop : tie.InvT-loop
 Inv-loop filled curve₀ i₀ curve i = (length curve ≡ 4400) × ((i ≤ 4400) × ((j : ℕ) → j < i → getD curve j 0 ≡ getD filled j 0))
