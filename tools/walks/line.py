@@ -10,11 +10,11 @@ D=dict(
   params=[('self','value','T'),('line','shr','u8'),('near','mut','u32'),('far','mut','u32'),('slots','mut','u16'),('daily','mut','u32'),('readings','mut','R'),('curve','shr','u64')],
   types=dict(
     T=dict(name='Record',mod=OWN+'Record',decl='Record',**{'decl-mod':SP+'declared.Record'}),
-    S=dict(name='Heard',mod='Rattle.heard.proofs.Heard',decl='Heard',**{'decl-mod':'Rattle.heard.specs.declared.Heard'}),
+    S=dict(name='Heard',mod='Rattle.hearing.proofs.heard.Heard',decl='Heard',**{'decl-mod':'Rattle.hearing.specs.declared.heard.Heard'}),
     O=dict(name='Opened',mod=OWN+'Opened',decl='Opened',**{'decl-mod':SP+'declared.Opened'}),
     R=dict(name='Reading',mod='Rattle.readings.proofs.Reading',decl='Reading',**{'decl-mod':'Rattle.readings.specs.declared.Reading'}),
   ),
-  imports=['use Rattle.meaning.specs.Blocks.{World}','use Rattle.meaning.specs.Calls.{lineOf}','use Rattle.readings.specs.Readings.{seen}','use Rattle.readings.specs.Columns.{world}','use Rattle.readings.specs.Lent.{EachLent}','use Rattle.heard.specs.Heard.{hearsBack}','use Rattle.site.specs.Views.{view, handsBack}'],
+  imports=['use Rattle.meaning.specs.Blocks.{World}','use Rattle.meaning.specs.Calls.{lineOf}','use Rattle.readings.specs.Readings.{seen}','use Rattle.readings.specs.Columns.{world}','use Rattle.readings.specs.Lent.{EachLent}','use Rattle.hearing.specs.Heard.{hearsBack}','use Rattle.site.specs.Views.{view, handsBack}'],
   calls=[
     dict(fn='hear',al='hear',Name='Hear',n='',mod=OWN+'whole.hear',key='#site·whole·hear',
       args=[('plain','T','self','self-is'),('ref','line'),('ref','near'),('ref','far'),('ref','slots'),('ref','daily'),('plain','usize','length (readings .now)','room-readings .0'),('plain','usize','length (curve .now)','room-curve .0')],

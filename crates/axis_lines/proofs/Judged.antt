@@ -11,8 +11,8 @@ use Rattle.meaning.specs.Blocks.{letterOfKind}
 use Rattle.judge.specs.Order.{numberBy}
 use Rattle.judge.proofs.Chain.{no-refusal, where-refused}
 use Rattle.axis_lines.specs.Answers.{readingJudged, dailyJudged}
-use Rattle.axis_lines.specs.declared.ReadingJudged.{ReadingJudged}
-use Rattle.axis_lines.specs.declared.DailyJudged.{DailyJudged}
+use Rattle.axis_lines.specs.declared.judging.ReadingJudged.{ReadingJudged}
+use Rattle.axis_lines.specs.declared.judging.DailyJudged.{DailyJudged}
 
 -- numbers that are what a line says
 pub record ReadingSays (h : Years) (l : Line) (p i k v : ℕ) : Type 0 where

@@ -9,8 +9,8 @@ use Rattle.meaning.specs.Refusals.{Reason}
 use Rattle.meaning.specs.Blocks.{letterOfKind}
 use Rattle.judge.specs.Order.{numberBy}
 use Rattle.judge.specs.Answers.{whereTaken}
-use Rattle.axis_lines.specs.declared.ReadingJudged.{ReadingJudged}
-use Rattle.axis_lines.specs.declared.DailyJudged.{DailyJudged}
+use Rattle.axis_lines.specs.declared.judging.ReadingJudged.{ReadingJudged}
+use Rattle.axis_lines.specs.declared.judging.DailyJudged.{DailyJudged}
 
 -- a refused X line: the number alone
 abbrev pub readingRefused : ℕ → ReadingJudged

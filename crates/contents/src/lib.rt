@@ -1,13 +1,18 @@
 // What 1 asks at the close of what the lent blocks hold: at a place with a date of the file's years what the tag can take, elsewhere fresh.
+mod axis_blocks; // of daily sums
+mod profile_blocks; // of profile values
+mod reading_blocks; // of the counted readings
+mod winter_blocks; // of points
+
 ghost use mathlib.Core.Path.{_≡_};
 ghost use Prim.Native.Nat.{_-_, _≤_};
 ghost use lib.ListN.{length};
 ghost use Rattle.contents.specs.Contents.{contentsIn};
-pub use axis_blocks::daily_fit;
+use crate::axis_blocks::daily_fit;
+use crate::profile_blocks::slots_fit;
+use crate::reading_blocks::readings_fit;
+use crate::winter_blocks::points_fit;
 use calendar::Years;
-pub use profile_blocks::slots_fit;
-pub use reading_blocks::readings_fit;
-pub use winter_blocks::points_fit;
 
 // A year some years before another, and 0 where there is none: an AL is 0 until S is taken.
 fn years_before(year: u64, years: u64) -> u64

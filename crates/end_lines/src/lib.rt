@@ -1,5 +1,6 @@
-// The refusals 4 to 12 of S and E.
-mod ends;
+// S and E lines: the refusals 4 to 12, and what an accepted one changes, the progress alone.
+mod judging; // the refusals
+mod taking; // what they change
 
-pub use ends::judge_end;
-pub use ends::judge_site;
+pub use taking::end_line;
+pub use taking::site_line;

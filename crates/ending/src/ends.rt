@@ -1,12 +1,12 @@
 // The close.
-use close_stops::close_stop;
-use closing::close_file;
-use ended::Ended;
-use ended::refuse;
-use ended::stopped_state;
-use ended::tell;
+use crate::ended::Ended;
+use crate::ended::refuse;
+use crate::ended::stopped_state;
+use crate::ended::tell;
+use crate::file::close_file;
+use crate::report::Closing;
+use crate::stops::close_stop;
 use readings::Columns;
-use report::Closing;
 use steps::Progress;
 ghost use mathlib.Core.Path.{_≡_};
 ghost use mathlib.Core.Bool.{true};
@@ -18,8 +18,8 @@ ghost use Rattle.readings.specs.Readings.{seen};
 ghost use Rattle.readings.specs.Columns.{world, worldIn};
 ghost use Rattle.readings.specs.Lent.{EachColumns};
 ghost use Rattle.steps.specs.Views.{recOf};
-ghost use Rattle.closing.specs.Closes.{FileFits, handsBack, closingMeant};
-ghost use Rattle.ended.specs.Ends.{endsBack, handed};
+ghost use Rattle.ending.specs.Closes.{FileFits, handsBack, closingMeant};
+ghost use Rattle.ending.specs.Ends.{endsBack, handed};
 
 // The close of the file, by the record's progress and the columns.
 fn close_held<'a>(

@@ -24,8 +24,8 @@ use Rattle.joining.proofs.Joins.{bytes-fit}
 use Rattle.readings.specs.declared.Reading.{Reading}
 use Rattle.answers.specs.Views.{answerView}
 use Rattle.site.specs.Views.{handsBack}
-use Rattle.turns.specs.Turns.{openedIn, turnView}
-use Rattle.own_lines.specs.declared.KeptTurn.{KeptTurn}
+use Rattle.piece_lines.specs.Turns.{openedIn, turnView}
+use Rattle.piece_lines.specs.declared.KeptTurn.{KeptTurn}
 use Rattle.runs.specs.declared.Fed.{Fed}
 use Rattle.runs.specs.Views.{runView}
 use Rattle.feed.specs.Views.{leftOf, heldWith}

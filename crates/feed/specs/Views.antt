@@ -7,7 +7,7 @@ use Rattle.pieces.specs.Run.{isAnswered}
 use Rattle.digits.specs.Written.{written}
 use Rattle.readings.specs.declared.Reading.{Reading}
 use Rattle.answers.specs.Views.{answerView}
-use Rattle.own_lines.specs.declared.KeptTurn.{KeptTurn}
+use Rattle.piece_lines.specs.declared.KeptTurn.{KeptTurn}
 use Rattle.runs.specs.declared.Run.{Run}
 use Rattle.runs.specs.declared.Fed.{Fed}
 

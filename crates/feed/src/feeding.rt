@@ -2,7 +2,7 @@
 use crate::lines::feed_lines;
 use answered::is_answered;
 use joining::join;
-use own_line::line_own;
+use own_calls::line_own;
 use readings::Reading;
 use runs::Fed;
 use runs::Run;

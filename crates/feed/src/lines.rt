@@ -2,8 +2,8 @@
 use answered::is_answered;
 use begun::least;
 use joining::appended;
-use own_lines::KeptTurn;
-use own_lines::give_own;
+use piece_lines::KeptTurn;
+use piece_lines::give_own;
 use readings::Reading;
 use runs::Fed;
 use runs::Run;
@@ -49,7 +49,7 @@ fn held_on(given: KeptTurn, line: [u8; 321], piece: &[u8]) -> Fed
     }
 }
 
-pub fn feed_lines(
+pub(crate) fn feed_lines(
     opened: Opened,
     readings: [Reading; 600],
     line: [u8; 321],

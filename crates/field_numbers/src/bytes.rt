@@ -19,7 +19,7 @@ fn is_strange(b: u8) -> bool
 }
 
 // Whether some byte is strange, with one byte more.
-pub fn also_strange(before: bool, b: u8) -> bool
+pub(crate) fn also_strange(before: bool, b: u8) -> bool
     ensures { λ r. ⌜ r ≡ (before || isStrange b) ⌝ }
 {
     if before {

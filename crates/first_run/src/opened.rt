@@ -1,5 +1,5 @@
 // A run at its start, on a record that is opened.
-use own_readings::open_own;
+use own_calls::open_own;
 use runs::Fed;
 use runs::fresh_readings;
 use runs::start;

@@ -28,8 +28,8 @@ use Rattle.steps.specs.Steps.{lineBlocks, LineSizes, stepOf, answerOf, heard}
 use Rattle.steps.proofs.Calls.{on-axis, kind-told, line-heard}
 use Rattle.first_stops.specs.Stops.{lengthsFit, earlyStop}
 use Rattle.first_stops.proofs.Laws.{six, parts, not-early}
-use Rattle.heard.specs.declared.Heard.{Heard}
-use Rattle.heard.specs.Heard.{hearsBack, unheardOf, heardOf}
+use Rattle.hearing.specs.declared.heard.Heard.{Heard}
+use Rattle.hearing.specs.Heard.{hearsBack, unheardOf, heardOf}
 
 -- the count is at most 9999
 few-lines : (s : Rec) → recFits s ≡ true → s .count ≤ 9999

@@ -1,10 +1,10 @@
 // One line of a file.
+use crate::heard::Heard;
+use crate::heard::counted;
+use crate::heard::unheard;
+use crate::taking::take_line;
 use early::line_stop;
-use heard::Heard;
-use heard::counted;
-use heard::unheard;
 use steps::Progress;
-use taking::take_line;
 ghost use mathlib.Core.Path.{_≡_};
 ghost use lib.ListN.{set};
 ghost use Rattle.meaning.specs.Calls.{lineOf};
@@ -12,7 +12,7 @@ ghost use Rattle.steps.specs.Views.{recOf};
 ghost use Rattle.readings.specs.Readings.{seen};
 ghost use Rattle.readings.specs.Columns.{world};
 ghost use Rattle.readings.specs.Lent.{EachLent};
-ghost use Rattle.heard.specs.Heard.{hearsBack};
+ghost use Rattle.hearing.specs.Heard.{hearsBack};
 
 // Of a record by its parts, and the lengths of the lent readings and curve. 1 and 13 come first, and leave the record.
 pub fn hear_line(

@@ -25,7 +25,7 @@ use Rattle.intake.proofs.Checks.{malformed-S, malformed-B, malformed-R, malform
 use Rattle.judge.specs.Before.{Known, isReached, beforeLike, beforeFirst, beforeRising, beforeEnd}
 use Rattle.judge.specs.Order.{numberBy, firstNumber, isLate}
 use Rattle.judge.specs.Answers.{siteShown}
-use Rattle.checks.specs.declared.Checks.{Checks}
+use Rattle.judge.specs.declared.order.Checks.{Checks}
 use Rattle.judge.proofs.Chain.{Asks, chain, clear, barred-rank, barred-first, needs-no-date, never-soon, never-falling, never-many, no-count}
 
 -- the number of the checks is that of the refusal

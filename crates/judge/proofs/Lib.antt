@@ -1,4 +1,4 @@
-pub mod Chain
 pub mod Judged
 pub mod ByTag
+pub mod Chain
 pub mod Records

@@ -7,7 +7,7 @@ use Rattle.meaning.specs.Refusals.{Reason}
 use Rattle.intake.specs.Views.{meterShown}
 use Rattle.intake.specs.declared.Site.{Site}
 use Rattle.judge.specs.Order.{numberBy}
-pub use Rattle.checks.specs.Order.{whereTaken}
+pub use Rattle.judge.specs.Order.{whereTaken}
 use Rattle.judge.specs.declared.SiteJudged.{SiteJudged}
 use Rattle.judge.specs.declared.YearJudged.{YearJudged}
 use Rattle.judge.specs.declared.RateJudged.{RateJudged}

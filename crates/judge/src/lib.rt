@@ -1,9 +1,16 @@
-// What the refusals 4 to 12 of a line are answered with, and their laws; the functions stand by tag in `end_lines`, `year_lines`, `axis_lines` and
-// `winter_lines`.
+// The refusals 4 to 12 of a line: their checks in order, what is answered, and the laws of both. The functions stand by tag in `end_lines`, `year_lines`,
+// `axis_lines` and `winter_lines`.
 //
 // A line comes there once 2 and 3 have left it, so its tag is known. Each function looks at the line and at plain numbers, asks every check of its tag and
 // answers the number of the first that holds, 0 for none, with the numbers that an accepted line changes the record by.
+mod order; // the checks in order, and those that several tags share
+
 use intake::Site;
+pub use order::Checks;
+pub use order::first;
+pub use order::is_late;
+pub use order::is_reached;
+pub use order::is_within;
 
 // S.
 pub struct SiteJudged {

@@ -1,1 +1,2 @@
+pub mod PartialYears
 pub mod Lacking

@@ -7,7 +7,7 @@ use lib.ListN.{getD}
 use Rattle.lists.specs.Lists.{any, range}
 use Rattle.intervals.specs.Columns.{opens, closes}
 unfoldable pub use Rattle.year_dates.specs.Dates.{somePartial, partialDates, lacksProfileAt, lacksProfiles}
-unfoldable pub use Rattle.zero_totals.specs.Totals.{someIn, someWinter, totalsZero}
+unfoldable pub use Rattle.lacks.specs.Totals.{someIn, someWinter, totalsZero}
 
 -- an interval from a to the one before b touches the axis years a / 366 to (b - 1) / 366: one of them has no D date
 unfoldable pub missesBetween : List ℕ → ℕ → ℕ → Bool

@@ -60,7 +60,7 @@ fn misses_of(positions: &[u32], n: usize, valid: [u64; 10], dates: [u64; 12], k:
     misses_in(positions, n, dates, 366 * (k + 1))
 }
 
-pub fn lacks_daily(
+pub(crate) fn lacks_daily(
     positions: &[u32],
     n: usize,
     count: u64,

@@ -1,8 +1,10 @@
 // Opening, on the lent blocks: all fresh where each has its size, else as they were.
+mod fills; // blocks filled with one value
+
+use crate::fills::fill_u16;
+use crate::fills::fill_u32;
+use crate::fills::fill_u64;
 use first_stops::sizes_fit;
-use fresh_blocks::fills::fill_u16;
-use fresh_blocks::fills::fill_u32;
-use fresh_blocks::fills::fill_u64;
 ghost use Rattle.readings.specs.Lent.{EachList};
 ghost use Rattle.readings.specs.Readings.{seen, freshened};
 ghost use Rattle.readings.specs.Columns.{world};

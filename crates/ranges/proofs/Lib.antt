@@ -1,1 +1,4 @@
 pub mod Spans
+pub mod Given
+pub mod Walks
+pub mod Zero

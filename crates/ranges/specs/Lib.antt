@@ -1,2 +1,3 @@
 pub mod Views
-pub mod Ranges
+pub mod SiteRanges
+pub mod YearRanges

@@ -1,10 +1,10 @@
 // The numbers by year: P and D dates, breaks and rates.
 use crate::Tallies;
+use crate::year_range::Tally;
+use crate::year_range::each_year;
 use intake::both;
 use spans::axis;
 use spans::history;
-use year_ranges::Tally;
-use year_ranges::each_year;
 ghost use mathlib.Core.Path.{_≡_};
 ghost use Rattle.calendar.specs.Spans.{historyYears};
 ghost use Rattle.meaning.specs.Record.{talliesFit};

@@ -1,10 +1,10 @@
 // The last date or year of each tag.
 use crate::Lasts;
+use crate::year_range::date_fits;
+use crate::year_range::year_fits;
 use intake::both;
 use spans::axis;
 use spans::history;
-use year_ranges::date_fits;
-use year_ranges::year_fits;
 ghost use mathlib.Core.Path.{_≡_};
 ghost use Rattle.calendar.specs.Spans.{historyYears};
 ghost use Rattle.meaning.specs.Record.{lastsFit};

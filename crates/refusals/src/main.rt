@@ -6,9 +6,9 @@ ghost use lib.ListN.{length};
 use answers::Answer;
 use libc::STDIN_FILENO;
 use libc::STDOUT_FILENO;
-use own_line::line_own;
-use own_readings::Kept;
-use own_readings::open_own;
+use own_calls::Kept;
+use own_calls::line_own;
+use own_calls::open_own;
 use readings::Reading;
 use runs::fresh_readings;
 use site::Record;
@@ -92,42 +92,26 @@ fn step_of(kept: Kept, said: Said) -> Stepped {
     }
 }
 
-// The blocks are made fresh for the next case.
-fn reopen(
-    record: Record,
-    readings: [Reading; 600],
-    near: &mut [u32],
-    far: &mut [u32],
-    slots: &mut [u16],
-    daily: &mut [u32],
-    curve: &mut [u64],
-) -> Stepped {
-    let count = record.count;
-    let kept = open_own(record, near, far, slots, daily, readings, curve);
-    let said = Said {
+// The end of a case, after so many lines.
+fn case_end(count: u64) -> Said {
+    Said {
         say: 2,
         number: 0,
         count,
-    };
-    step_of(kept, said)
+    }
 }
 
-fn given(
-    record: Record,
-    readings: [Reading; 600],
-    line: &[u8],
-    near: &mut [u32],
-    far: &mut [u32],
-    slots: &mut [u16],
-    daily: &mut [u32],
-    curve: &[u64],
-) -> Stepped {
-    let kept = line_own(record, line, near, far, slots, daily, readings, curve);
-    let opened = kept.opened;
-    let answer = opened.answer;
-    step_of(kept, said_of(answer))
+// How much of the near block a line is lent.
+fn lent(line: &[u8], size: usize) -> usize
+    ensures { λ r. ⌜ r ≤ size ⌝ }
+{
+    if is_sign(line, b'~') {
+        return 0;
+    }
+    size
 }
 
+// At a case's end the blocks are made fresh for the next one.
 fn step(
     record: Record,
     readings: [Reading; 600],
@@ -139,21 +123,24 @@ fn step(
     curve: &mut [u64],
 ) -> Stepped {
     if is_sign(line, b'=') {
-        return reopen(record, readings, near, far, slots, daily, curve);
+        let count = record.count;
+        let fresh = open_own(record, near, far, slots, daily, readings, curve);
+        return step_of(fresh, case_end(count));
     }
-    if is_sign(line, b'~') {
-        return given(
-            record,
-            readings,
-            line,
-            &mut near[..0],
-            far,
-            slots,
-            daily,
-            curve,
-        );
-    }
-    given(record, readings, line, near, far, slots, daily, curve)
+    let size = lent(line, near.len());
+    let kept = line_own(
+        record,
+        line,
+        &mut near[..size],
+        far,
+        slots,
+        daily,
+        readings,
+        curve,
+    );
+    let opened = kept.opened;
+    let answer = opened.answer;
+    step_of(kept, said_of(answer))
 }
 
 fn write_step(say: u64, number: u64, count: u64) {

@@ -12,9 +12,9 @@ use borrow.Author.Tests.{eq-eqb, ne-eqb}
 use Rattle.lists.specs.Lists.{flat}
 use Rattle.digits.proofs.Written.{written-fits, take-written}
 use Rattle.meaning.specs.Text.{tabbed, levelText, yearText}
-use Rattle.printed.specs.Put.{Put}
-use Rattle.printed.proofs.Chains.{tabbed-length}
-use Rattle.report.specs.declared.Year.{Year}
+use Rattle.shown.specs.Put.{Put}
+use Rattle.shown.proofs.Chains.{tabbed-length}
+use Rattle.ending.specs.declared.report.Year.{Year}
 use Rattle.shown.specs.Shown.{rowText, rowsText, Holds}
 
 -- ---- nothing put

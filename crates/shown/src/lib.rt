@@ -1,12 +1,15 @@
 // The text of a sheet: at most 86 bytes of its N line and 46 of each Y line.
+mod refusal_line; // a refusal's line
+mod report_lines; // the lines of a level and of its years
+
+use crate::refusal_line::put_refusal;
+use crate::report_lines::put_level;
+use crate::report_lines::put_year;
 use answers::Answer;
-use printed::put_refusal;
-use printed_report::put_level;
-use printed_report::put_year;
-use report::Year;
+use ending::Year;
 ghost use Prim.Native.Nat.{_+_, _≤_};
 ghost use lib.ListN.{length};
-ghost use Rattle.printed.specs.Put.{Put};
+ghost use Rattle.shown.specs.Put.{Put};
 ghost use Rattle.shown.specs.Shown.{rowText, rowsText, sheetText, Holds};
 
 // The first bytes are a sheet's text.

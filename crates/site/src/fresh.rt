@@ -10,7 +10,7 @@ ghost use Rattle.meaning.specs.Record.{emptyRec, neverOpened};
 ghost use Rattle.site.specs.Views.{view};
 
 // A record in a state, with no line taken.
-pub fn empty(state: u64) -> Record
+pub(crate) fn empty(state: u64) -> Record
     ensures { λ r. ⌜ view r ≡ emptyRec state ⌝ }
 {
     let site = Site {

@@ -4,16 +4,16 @@ use crate::Opened;
 use crate::Record;
 use crate::fresh::empty;
 use answers::Answer;
-use ended::Ended;
-use heard::Heard;
+use ending::Ended;
+use hearing::Heard;
 ghost use mathlib.Core.Path.{_≡_};
 ghost use Rattle.meaning.specs.Blocks.{World};
-ghost use Rattle.heard.specs.Heard.{hearsBack};
-ghost use Rattle.ended.specs.Ends.{endsBack};
+ghost use Rattle.hearing.specs.Heard.{hearsBack};
+ghost use Rattle.ending.specs.Ends.{endsBack};
 ghost use Rattle.site.specs.Views.{handsBack, openedBy, closesBack};
 
 // Open with nothing taken, or refused by 1, as the blocks have their sizes or not.
-pub fn open_answer(rec: Record, sized: bool) -> Opened
+pub(crate) fn open_answer(rec: Record, sized: bool) -> Opened
     ensures { λ r. ⌜ ((w : World) → handsBack r w ≡ openedBy sized rec w) ⌝ }
 {
     if sized {
@@ -30,7 +30,7 @@ pub fn open_answer(rec: Record, sized: bool) -> Opened
 }
 
 // After a line.
-pub fn line_answer(heard: Heard) -> Opened
+pub(crate) fn line_answer(heard: Heard) -> Opened
     ensures { λ r. ⌜ ((w : World) → handsBack r w ≡ hearsBack heard w) ⌝ }
 {
     let progress = heard.progress;
@@ -46,7 +46,7 @@ pub fn line_answer(heard: Heard) -> Opened
 }
 
 // After a close, which changes nothing but the state.
-pub fn close_answer(rec: Record, ended: Ended) -> Closed
+pub(crate) fn close_answer(rec: Record, ended: Ended) -> Closed
     ensures { λ r. ⌜ ((w : World) → closesBack r w ≡ endsBack ended (rec .count) (rec .progress) w) ⌝ }
 {
     let progress = rec.progress;

@@ -1,8 +1,8 @@
 // The work of a line and of the close, on a whole record.
 use crate::Record;
-use ended::Ended;
+use ending::Ended;
 use ending::close_blocks;
-use heard::Heard;
+use hearing::Heard;
 use hearing::hear_line;
 use readings::Columns;
 ghost use mathlib.Core.Path.{_≡_};
@@ -11,11 +11,11 @@ ghost use Rattle.meaning.specs.Calls.{lineOf, closeOf};
 ghost use Rattle.readings.specs.Readings.{seen};
 ghost use Rattle.readings.specs.Columns.{world};
 ghost use Rattle.readings.specs.Lent.{EachLent, EachColumns};
-ghost use Rattle.heard.specs.Heard.{hearsBack};
-ghost use Rattle.ended.specs.Ends.{endsBack, handed};
+ghost use Rattle.hearing.specs.Heard.{hearsBack};
+ghost use Rattle.ending.specs.Ends.{endsBack, handed};
 ghost use Rattle.site.specs.Views.{view};
 
-pub fn hear(
+pub(crate) fn hear(
     rec: Record,
     line: &[u8],
     near: &mut [u32],
@@ -42,7 +42,7 @@ pub fn hear(
     )
 }
 
-pub fn shut<'a>(
+pub(crate) fn shut<'a>(
     rec: Record,
     near: &'a [u32],
     far: &'a [u32],

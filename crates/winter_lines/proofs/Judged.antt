@@ -7,7 +7,7 @@ use Rattle.meaning.specs.Refusals.{Reason}
 use Rattle.judge.specs.Order.{numberBy}
 use Rattle.judge.proofs.Chain.{no-refusal, where-refused}
 use Rattle.winter_lines.specs.Answers.{dateJudged}
-use Rattle.winter_lines.specs.declared.DateJudged.{DateJudged}
+use Rattle.winter_lines.specs.declared.judging.DateJudged.{DateJudged}
 
 -- numbers that are what a line says
 pub record DateSays (t : Tag) (l : Line) (y w v : ℕ) : Type 0 where

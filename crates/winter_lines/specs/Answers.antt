@@ -5,7 +5,7 @@ use Rattle.meaning.specs.Line.{Line, Tag, yearOn, winterOn, keyOf}
 use Rattle.meaning.specs.Refusals.{Reason}
 use Rattle.judge.specs.Order.{numberBy}
 use Rattle.judge.specs.Answers.{whereTaken}
-use Rattle.winter_lines.specs.declared.DateJudged.{DateJudged}
+use Rattle.winter_lines.specs.declared.judging.DateJudged.{DateJudged}
 
 -- a refused line: the number alone
 abbrev pub dateRefused : ℕ → DateJudged

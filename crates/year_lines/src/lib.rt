@@ -1,5 +1,6 @@
-// The refusals 4 to 12 of B and R.
-mod years;
+// B and R lines: the refusals 4 to 12, and what an accepted one changes, the progress alone.
+mod judging; // the refusals
+mod taking; // what they change
 
-pub use years::judge_break;
-pub use years::judge_rate;
+pub use taking::break_line;
+pub use taking::rate_line;

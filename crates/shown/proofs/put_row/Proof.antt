@@ -7,7 +7,7 @@ use Rattle.shown.proofs.put_row.Statement.{statement}
 use Rattle.shown.proofs.put_row.Tie as tie
 use Rattle.shown.proofs.put_row.Reads as reads
 use Rattle.shown.proofs.put_row.Lts as lts
-use Rattle.printed_report.proofs.put_year.Reads as put-year-reads
+use Rattle.shown.proofs.report_lines.put_year.Reads as put-year-reads
 
 returns : tie.Need-returns
 returns c =

@@ -1,5 +1,5 @@
 use native.Mathlib.Omega.{arith}
-use Rattle.printed.proofs.Chains.{put-length, put-then}
+use Rattle.shown.proofs.Chains.{put-length, put-then}
 use Rattle.shown.specs.Shown.{sheetText}
 use Rattle.shown.proofs.Rows.{level-put}
 use borrow.Author.Needs.{needs}
@@ -7,8 +7,8 @@ use Rattle.shown.proofs.put_sheet.Statement.{statement}
 use Rattle.shown.proofs.put_sheet.Tie as tie
 use Rattle.shown.proofs.put_sheet.Reads as reads
 use Rattle.shown.proofs.put_sheet.Lts as lts
-use Rattle.printed_report.proofs.put_level.Reads as put-level-reads
-use Rattle.printed.proofs.put_refusal.Reads as put-refusal-reads
+use Rattle.shown.proofs.report_lines.put_level.Reads as put-level-reads
+use Rattle.shown.proofs.refusal_line.put_refusal.Reads as put-refusal-reads
 use Rattle.shown.proofs.put_rows.Reads as put-rows-reads
 
 enum-told : tie.Need-enum-told

@@ -1,6 +1,6 @@
 use borrow.Author.Needs.{needs}
 use Rattle.readings.proofs.Long.{long-columns}
-use Rattle.ending.proofs.Calls.{refused-close, fits-file, told-close}
+use Rattle.ending.proofs.EndingCalls.{refused-close, fits-file, told-close}
 use Rattle.ending.proofs.ends.close_blocks.Statement.{statement}
 use Rattle.ending.proofs.ends.close_blocks.Tie as tie
 

@@ -13,7 +13,7 @@ use Rattle.feed.proofs.feeding.carry.Lts as lts
 use Rattle.joining.proofs.join.Reads as join-reads
 use Rattle.feed.proofs.feeding.fed_on.Reads as fed-on-reads
 use Rattle.feed.proofs.lines.feed_lines.Reads as feed-lines-reads
-use Rattle.own_line.proofs.line_own.Reads as line-own-reads
+use Rattle.own_calls.proofs.line_own.Reads as line-own-reads
 
 join-requires : tie.Need-join-requires
 join-requires c κs = search needs

@@ -9,7 +9,7 @@ use Rattle.feed.proofs.lines.feed_lines.Tie as tie
 use Rattle.feed.proofs.lines.feed_lines.Reads as reads
 use Rattle.feed.proofs.lines.feed_lines.Lts as lts
 use Rattle.feed.proofs.lines.held_on.Reads as held-on-reads
-use Rattle.own_lines.proofs.give_own.Reads as give-own-reads
+use Rattle.piece_lines.proofs.give_own.Reads as give-own-reads
 
 give-own-requires : tie.Need-give-own-requires
 give-own-requires c κs = search needs

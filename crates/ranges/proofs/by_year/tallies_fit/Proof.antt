@@ -1,6 +1,6 @@
 use borrow.Author.Needs.{needs}
 use Rattle.meaning.specs.Record.{talliesFit}
-use Rattle.ranges.specs.Ranges.{yearNumberFits, rateFits}
+use Rattle.ranges.specs.YearRanges.{yearNumberFits, rateFits}
 use Rattle.ranges.proofs.Spans.{history-ends, axis-ends}
 use Rattle.ranges.proofs.by_year.tallies_fit.Statement.{statement}
 use Rattle.ranges.proofs.by_year.tallies_fit.Tie as tie

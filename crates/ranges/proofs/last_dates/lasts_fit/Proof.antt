@@ -1,7 +1,7 @@
 use mathlib.Core.Path.{_∙_}
 use borrow.Author.Needs.{needs}
 use Rattle.meaning.specs.Record.{lastsFit}
-use Rattle.site_ranges.proofs.Given.{and-same}
+use Rattle.ranges.proofs.Given.{and-same}
 use Rattle.ranges.proofs.last_dates.lasts_fit.Statement.{statement}
 use Rattle.ranges.proofs.last_dates.lasts_fit.Tie as tie
 

@@ -5,7 +5,7 @@ use borrow.Author.Needs.{needs}
 use borrow.Author.Tests.{not-true, not-false}
 use Rattle.readings.specs.Readings.{seen}
 use Rattle.readings.specs.Columns.{world}
-use Rattle.ended.specs.Ends.{handed}
+use Rattle.ending.specs.Ends.{handed}
 use Rattle.site.specs.Views.{handsBack}
 use Rattle.runs.specs.Views.{openedOf}
 use Rattle.sheet.proofs.Ends.{ended-now, ended-last}
@@ -14,7 +14,7 @@ use Rattle.sheet.proofs.finishing.finish.Tie as tie
 use Rattle.sheet.proofs.finishing.finish.Reads as reads
 use Rattle.sheet.proofs.finishing.finish.Lts as lts
 use Rattle.begun.proofs.least.Reads as least-reads
-use Rattle.own_line.proofs.line_own.Reads as line-own-reads
+use Rattle.own_calls.proofs.line_own.Reads as line-own-reads
 use Rattle.sheet.proofs.finishing.has_last.Reads as has-last-reads
 use Rattle.sheet.proofs.finishing.shut_run.Reads as shut-run-reads
 

@@ -2,7 +2,7 @@ use mathlib.Core.Path.{ap, sym, _∙_}
 use borrow.Author.Needs.{needs}
 use Rattle.readings.specs.Readings.{seen}
 use Rattle.readings.specs.Columns.{world}
-use Rattle.ended.specs.Ends.{handed}
+use Rattle.ending.specs.Ends.{handed}
 use Rattle.site.specs.declared.Closed.{Closed}
 use Rattle.site.specs.Views.{view, handsBack, closesBack}
 use Rattle.sheet.proofs.Ends.{back-answered, shut-open}
@@ -10,7 +10,7 @@ use Rattle.sheet.proofs.finishing.shut_run.Statement.{statement}
 use Rattle.sheet.proofs.finishing.shut_run.Tie as tie
 use Rattle.sheet.proofs.finishing.shut_run.Reads as reads
 use Rattle.sheet.proofs.finishing.shut_run.Lts as lts
-use Rattle.own_close.proofs.close_own.Reads as close-own-reads
+use Rattle.own_calls.proofs.close_own.Reads as close-own-reads
 use Rattle.sheet.proofs.finishing.unclosed.Reads as unclosed-reads
 use Rattle.answered.proofs.is_answered.Reads as is-answered-reads
 

@@ -44,16 +44,16 @@ use Rattle.meaning.specs.Calls.{lineOf}
 use Rattle.readings.specs.Readings.{seen}
 use Rattle.readings.specs.Columns.{world}
 use Rattle.readings.specs.Lent.{EachLent}
-use Rattle.heard.specs.Heard.{hearsBack}
+use Rattle.hearing.specs.Heard.{hearsBack}
 use Rattle.site.specs.Views.{view, handsBack}
 use Rattle.site.specs.declared.Record.{Record}
-use Rattle.heard.specs.declared.Heard.{Heard}
+use Rattle.hearing.specs.declared.heard.Heard.{Heard}
 use Rattle.site.specs.declared.Opened.{Opened}
 use Rattle.readings.specs.declared.Reading.{Reading}
 use Rattle.site.proofs.Record as T
 use Rattle.site.proofs.Record.Laws as T′
-use Rattle.heard.proofs.Heard as S
-use Rattle.heard.proofs.Heard.Laws as S′
+use Rattle.hearing.proofs.heard.Heard as S
+use Rattle.hearing.proofs.heard.Heard.Laws as S′
 use Rattle.site.proofs.Opened as O
 use Rattle.site.proofs.Opened.Laws as O′
 use Rattle.readings.proofs.Reading as R

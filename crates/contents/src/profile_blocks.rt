@@ -1,0 +1,44 @@
+// What 1 asks at the close of the profile values: at a date of the history what P can give, elsewhere 0.
+use crate::winter_blocks::day_end;
+use crate::winter_blocks::is_dated;
+use calendar::Years;
+ghost use mathlib.Core.Path.{_≡_};
+ghost use mathlib.Core.Bool.{false};
+ghost use Prim.Native.Nat.{_≤_};
+ghost use Rattle.lists.specs.Lists.{all};
+ghost use Rattle.meaning.specs.Record.{slotsFit};
+ghost use Rattle.contents.specs.Winter.{slotFits};
+
+const HALF_HOURS: usize = 20;
+
+// The profile values of a day without a date.
+fn all_zero(slots: &[u16]) -> bool
+    ensures { λ r. ⌜ r ≡ all (slotFits false) (now (slots .entry)) ⌝ }
+{
+    let mut i = 0;
+    while i < slots.len() {
+        if slots[i] != 0 {
+            return false;
+        }
+        i += 1;
+    }
+    true
+}
+
+// A profile value of a day that has a date can be any: no u16 is above 65,535.
+pub(crate) fn slots_fit(slots: &[u16], history: Years) -> bool
+    requires { ⌜ history .first ≤ 9999 ⌝ }
+    ensures { λ r. ⌜ r ≡ slotsFit history (now (slots .entry)) ⌝ }
+{
+    let mut i = 0;
+    while i < slots.len() {
+        let e = day_end(i, slots.len());
+        if !is_dated(history, history.first, i) {
+            if !all_zero(&slots[i..e]) {
+                return false;
+            }
+        }
+        i += HALF_HOURS;
+    }
+    true
+}

@@ -1,0 +1,4 @@
+pub mod Stops
+pub mod Closes
+pub mod Rows
+pub mod Ends

@@ -1,0 +1,102 @@
+// What the close of a file hands back: a refusal, or level, points, years and curve (document 01, Calls and the lines of a file).
+use calendar::Years;
+use cases::Case;
+use curve::Filling;
+ghost use mathlib.Core.Path.{_≡_};
+ghost use Prim.Native.Nat.{_≤_, _<_, _*_};
+ghost use Rattle.meaning.specs.Text.{letterOfCase};
+ghost use Rattle.cases.specs.Cases.{meantCase};
+ghost use Rattle.ending.specs.Rows.{rowIn, rowsIn, refusedBy, reportedBy};
+
+// A history year: its case as the sheet has it, and its points present. All 0 where the file has no such year.
+pub struct Year {
+    pub year: u64,
+    pub case: u8,
+    pub present: u64,
+}
+
+// A refusal's number, and 0 else; or number 0 with the level in W, the points counted and the years.
+pub struct Closing {
+    pub number: u64,
+    pub level: u64,
+    pub points: u64,
+    pub years: [Year; 10],
+}
+
+// A case as the sheet has it.
+fn letter_of(case: Case) -> u8
+    ensures { λ r. ⌜ r ≡ letterOfCase (meantCase case) ⌝ }
+{
+    match case {
+        Case::M => b'M',
+        Case::T1 => b'1',
+        Case::T2 => b'2',
+        Case::T3 => b'3',
+        Case::T4 => b'4',
+        Case::P => b'P',
+        Case::I5 => b'5',
+        Case::I6 => b'6',
+    }
+}
+
+fn row(year: u64, code: u64, present: u64) -> Year
+    ensures { λ r. ⌜ r ≡ rowIn year code present ⌝ }
+{
+    Year {
+        year,
+        case: letter_of(cases::case_at(code)),
+        present,
+    }
+}
+
+fn rows(h: Years, codes: [u64; 10], present: [u64; 10]) -> [Year; 10]
+    requires { ⌜ (h .first ≤ 2021) × (h .count ≤ 10) ⌝ }
+    ensures { λ r. ⌜ r ≡ rowsIn h codes present ⌝ }
+{
+    let n = h.count as usize;
+    let none = Year {
+        year: 0,
+        case: 0,
+        present: 0,
+    };
+    let mut years = [none; 10];
+    let mut k = 0;
+    while k < n {
+        let y = row(h.first + (k as u64), codes[k], present[k]);
+        years[k] = y;
+        k += 1;
+    }
+    years
+}
+
+pub(crate) fn refused(number: u64) -> Closing
+    ensures { λ r. ⌜ r ≡ refusedBy number ⌝ }
+{
+    let none = Year {
+        year: 0,
+        case: 0,
+        present: 0,
+    };
+    Closing {
+        number,
+        level: 0,
+        points: 0,
+        years: [none; 10],
+    }
+}
+
+pub(crate) fn reported(al: u64, filiere: u64, h: Years, codes: [u64; 10], f: Filling) -> Closing
+    requires { ⌜ (h .first ≤ 2021) × (h .count ≤ 10) ⌝ }
+    requires { ⌜ (0 < f .counted) × (f .counted ≤ 4400) × (f .sum ≤ 20_000_000_000_000 * f .counted) ⌝ }
+    ensures { λ r. ⌜ r ≡ reportedBy al filiere h codes f ⌝ }
+{
+    let level = curve::level::ncc(al, filiere, f.sum, f.counted);
+    let present = f.present;
+    let years = rows(h, codes, present);
+    Closing {
+        number: 0,
+        level,
+        points: f.counted,
+        years,
+    }
+}

@@ -1,0 +1,126 @@
+// By number, and by what the record and the blocks hold.
+use contents::contents_fit;
+use early::given;
+use early::record_fits;
+use first_stops::open_stop;
+use first_stops::sizes_fit;
+use intake::both;
+use readings::Columns;
+use spans::axis;
+use spans::history;
+use steps::Progress;
+ghost use mathlib.Core.Path.{_≡_};
+ghost use mathlib.Core.List.{[]};
+ghost use Prim.Native.Nat.{_≤_};
+ghost use Rattle.readings.specs.Columns.{worldIn};
+ghost use Rattle.steps.specs.Views.{recOf};
+ghost use Rattle.ending.specs.Stops.{FoundFit, allFit, closeStop};
+
+// 1 before 13 before 14: E was not taken. 0 for none.
+fn ended_stop(fit: bool, state: u64, last: u64) -> u64
+    ensures { λ r. ⌜ r ≡ closeStop fit state last ⌝ }
+{
+    let early = open_stop(fit, state);
+    if early != 0 {
+        return early;
+    }
+    if last != 8 {
+        return 14;
+    }
+    0
+}
+
+// 1, by what the blocks hold; whatever the record's state and count.
+fn blocks_fit(
+    progress: Progress,
+    near: &[u32],
+    far: &[u32],
+    slots: &[u16],
+    daily: &[u32],
+    columns: Columns,
+) -> bool
+    requires { ⌜ (progress .readings ≤ 600) × (progress .site .al ≤ 9999) ⌝ }
+    ensures { λ r. ⌜ FoundFit progress (worldIn (now (near .entry)) (now (far .entry)) (now (slots .entry)) (now (daily .entry)) (columns .positions) (columns .indexes) (columns .kinds) []) r ⌝ }
+{
+    let site = progress.site;
+    let al = given(progress.last != 0, site.al);
+    let filiere = given(progress.last != 0, site.filiere);
+    let years = history(al, filiere);
+    let around = axis(al, filiere);
+    let n = progress.readings as usize;
+    let positions = columns.positions;
+    let indexes = columns.indexes;
+    let kinds = columns.kinds;
+    contents_fit(
+        near,
+        far,
+        slots,
+        daily,
+        &positions,
+        &indexes,
+        &kinds,
+        n,
+        site.al,
+        years,
+        around,
+    )
+}
+
+// 1. The readings come as columns, with the length of the list that they were copied from.
+fn all_fit(
+    state: u64,
+    count: u64,
+    progress: Progress,
+    near: &[u32],
+    far: &[u32],
+    slots: &[u16],
+    daily: &[u32],
+    columns: Columns,
+    readings: usize,
+    curve: usize,
+) -> bool
+    ensures { λ r. ⌜ r ≡ allFit (recOf state count progress) readings curve (worldIn (now (near .entry)) (now (far .entry)) (now (slots .entry)) (now (daily .entry)) (columns .positions) (columns .indexes) (columns .kinds) []) ⌝ }
+{
+    let fit = sizes_fit(
+        near.len(),
+        far.len(),
+        slots.len(),
+        daily.len(),
+        readings,
+        curve,
+    );
+    if !both(fit, record_fits(state, count, progress)) {
+        return false;
+    }
+    blocks_fit(progress, near, far, slots, daily, columns)
+}
+
+// Of a record by its parts, the lent blocks, the columns, and the lengths of the lent readings and the curve.
+pub(crate) fn close_stop(
+    state: u64,
+    count: u64,
+    progress: Progress,
+    near: &[u32],
+    far: &[u32],
+    slots: &[u16],
+    daily: &[u32],
+    columns: Columns,
+    readings: usize,
+    curve: usize,
+) -> u64
+    ensures { λ r. ⌜ r ≡ closeStop (allFit (recOf state count progress) readings curve (worldIn (now (near .entry)) (now (far .entry)) (now (slots .entry)) (now (daily .entry)) (columns .positions) (columns .indexes) (columns .kinds) [])) state (progress .last) ⌝ }
+{
+    let fit = all_fit(
+        state,
+        count,
+        progress,
+        near,
+        far,
+        slots,
+        daily,
+        columns,
+        readings,
+        curve,
+    );
+    ended_stop(fit, state, progress.last)
+}

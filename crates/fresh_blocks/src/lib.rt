@@ -1,2 +1,0 @@
-// Blocks as opening leaves them.
-pub mod fills; // a block filled with one value

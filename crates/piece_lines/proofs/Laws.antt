@@ -1,0 +1,166 @@
+-- A run and the next line of its piece: the line is given and the rest is left, or there is none, and what is left is a line begun.
+use mathlib.Core.Path.{_≡_, refl, ap, sym, _∙_}
+use mathlib.Core.Bool.{Bool, true, false, _&&_, _||_, not, cond, true≢false, false≢true}
+use mathlib.Core.List.{List, [], _∷_}
+use Prim.Native.Nat.{ℕ, _+_, _-_, _≤_, _<_, min}
+use native.Mathlib.Omega.{arith}
+use lib.Dec.{ltb}
+use lib.ListN.{length, take, drop, length-take, length-drop, drop-of-length-le, take-append-drop}
+use lib.Seq.{take-all, drop-drop}
+use borrow.Author.Tests.{ltb-true, ltb-false}
+use Rattle.meaning.specs.Blocks.{World}
+use Rattle.meaning.specs.Calls.{Out, lineOf}
+use Rattle.pieces.specs.Run.{runOf, isAnswered, given, longer, fed}
+use Rattle.pieces.specs.Parts.{endAt, stepped}
+use Rattle.pieces.proofs.Feeding.{fed-append, kept}
+use Rattle.pieces.proofs.Parts.{end-within, longer-given, longer-held, none-left, rest-is, turn-fed}
+use Rattle.answers.specs.Views.{answerView}
+use Rattle.site.specs.declared.Opened.{Opened}
+use Rattle.site.specs.Views.{view, handsBack}
+use Rattle.piece_lines.specs.declared.Turn.{Turn}
+use Rattle.piece_lines.specs.Turns.{partOf, leftAt, limitAt, bytesAt, turnOf, openedIn, lineOn, turnView}
+
+-- ---- a part whose ends are within the piece
+none-taken : (n : ℕ) → take {A = ℕ} n [] ≡ []
+none-taken n = take-all {A = ℕ} n [] (omega arith)
+
+pub part-is : (bs : List ℕ) (from to e a : ℕ) → e ≡ min to (length bs) → a ≡ min from e → take (e - a) (drop a bs) ≡ partOf bs from to
+unfolding partOf
+part-is bs from to e a p q = go (ltb e from) refl (ltb (length bs) to) refl
+  where
+    go : (x : Bool) → ltb e from ≡ x → (y : Bool) → ltb (length bs) to ≡ y → take (e - a) (drop a bs) ≡ take (to - from) (drop from bs)
+    go true h true k =
+        let z : e - a ≡ 0 = omega (arith, ltb-true e from h) in
+        let o : length bs ≤ from = omega (arith, ltb-true e from h, ltb-true (length bs) to k) in
+        rw (z, drop-of-length-le bs o) (sym (none-taken (to - from)))
+    go true h false k =
+        let z : e - a ≡ 0 = omega (arith, ltb-true e from h) in
+        let y : to - from ≡ 0 = omega (arith, ltb-true e from h, ltb-false (length bs) to k) in
+        rw (z, y)
+    go false h true k =
+        let x : a ≡ from = omega (arith, ltb-false e from h) in
+        let b : length (drop from bs) ≤ e - from = omega (arith, length-drop from bs, ltb-true (length bs) to k) in
+        let c : length (drop from bs) ≤ to - from = omega (arith, length-drop from bs, ltb-true (length bs) to k) in
+        rw (x, take-all (e - from) (drop from bs) b, take-all (to - from) (drop from bs) c)
+    go false h false k =
+        let x : a ≡ from = omega (arith, ltb-false e from h) in
+        let y : e ≡ to = omega (arith, ltb-false (length bs) to k) in
+        rw (x, y)
+
+-- ---- the bytes of a turn
+pub limited : (t : List ℕ) (n : ℕ) → n ≡ min 321 (length t) → n ≡ length (take n t)
+limited t n h = omega (arith, h, length-take n t)
+
+-- the line's bytes are within its limit, and that within the piece
+pub turn-fits : (bs : List ℕ) (at f n e : ℕ) → f ≡ min at (length bs) → n ≡ min 321 (length (take (length bs - f) (drop f bs))) → e ≡ endAt (take n (take (length bs - f) (drop f bs)))
+    → (f + n ≤ length bs) × (e ≤ n)
+turn-fits bs at f n e p q r =
+    let t = take (length bs - f) (drop f bs) in
+    (omega (arith, p, q, length-take (length bs - f) (drop f bs), length-drop f bs), omega (arith, r, end-within (take n (take (length bs - f) (drop f bs))), length-take n (take (length bs - f) (drop f bs))))
+
+pub turn-is : (o : Opened) (bs : List ℕ) (at f n e u : ℕ) (w : Bool) → f ≡ min at (length bs) → n ≡ min 321 (length (take (length bs - f) (drop f bs)))
+    → e ≡ endAt (take n (take (length bs - f) (drop f bs))) → u ≡ min (e + 1) n
+    → w ≡ (not (isAnswered (answerView (o .answer))) && (ltb e n || ltb 320 e))
+    → record { «record» = o .«record»; answer = o .answer; from = f; to = f + e; past = f + u; whole = w } ≡ turnOf o bs at
+unfolding turnOf
+turn-is o bs at f n e u w p q r s t = rw (t, s, r, q, rest-is bs f, p)
+
+-- ---- the next turn of a run
+not-and : (a b : Bool) → (not a && b) ≡ true → (a ≡ false) × (b ≡ true)
+not-and true b h = absurd (false≢true h)
+not-and false b h = (refl, h)
+
+empty : (l : List ℕ) → length l ≤ 0 → l ≡ []
+empty [] h = refl
+empty (b ∷ l) h = absurd (omega arith)
+
+module _ (O : Out) (bs : List ℕ) (f n e : ℕ) (unanswered : isAnswered (O .answer) ≡ false) (limit : n ≡ min 321 (length (drop f bs))) (end : e ≡ endAt (take n (drop f bs))) where
+  within : e ≤ n
+  within = omega (arith, end-within (take n (drop f bs)), length-take n (drop f bs))
+
+  stepped-given : (b : Bool) → ltb e n ≡ b → (b || ltb 320 e) ≡ true → stepped b (runOf O []) (take e (drop f bs)) ≡ runOf (lineOf (O .after) (take e (drop f bs)) (O .world)) []
+  unfolding stepped given
+  stepped-given true h k = refl
+  stepped-given false h k =
+      longer-given O (take e (drop f bs)) (omega (arith, length-take e (drop f bs), ltb-true 320 e k, within, limit))
+
+  pub line-given : (ltb e n || ltb 320 e) ≡ true → 0 < n
+      → fed (runOf O []) (drop f bs) ≡ fed (runOf (lineOf (O .after) (take e (drop f bs)) (O .world)) []) (drop (f + min (e + 1) n) bs)
+  line-given h some-left =
+      ap (fed (runOf O [])) (sym (take-append-drop (min (e + 1) n) (drop f bs)))
+      ∙ fed-append (runOf O []) (take (min (e + 1) n) (drop f bs)) (drop (min (e + 1) n) (drop f bs))
+      ∙ rw (turn-fed O [] (drop f bs) 0 n e unanswered (omega arith) (omega arith) (omega (arith, limit)) limit end, stepped-given (ltb e n) refl h, drop-drop (min (e + 1) n) f bs)
+
+  pub line-begun : (ltb e n || ltb 320 e) ≡ false → fed (runOf O []) (drop f bs) ≡ runOf O (drop f bs)
+  unfolding stepped
+  line-begun h = go (ltb 0 (length (drop f bs))) refl (ltb e n) refl h
+    where
+      go : (x : Bool) → ltb 0 (length (drop f bs)) ≡ x → (b : Bool) → ltb e n ≡ b → (b || ltb 320 e) ≡ false → fed (runOf O []) (drop f bs) ≡ runOf O (drop f bs)
+      go x p true q k = absurd (true≢false k)
+      go false p false q k = none-left (runOf O []) (drop f bs) (ltb-false 0 (length (drop f bs)) p) ∙ ap (runOf O) (sym (empty (drop f bs) (ltb-false 0 (length (drop f bs)) p)))
+      go true p false q k =
+          let z : e ≡ length (drop f bs) = omega (arith, ltb-false e n q, ltb-false 320 e k, within, limit) in
+          let y : take e (drop f bs) ≡ drop f bs = take-all e (drop f bs) (omega (arith, z)) in
+          let x : min (e + 1) n ≡ e = omega (arith, ltb-false e n q, within) in
+          let u : fed (runOf O []) (take (min (e + 1) n) (drop f bs)) ≡ stepped (ltb e n) (runOf O []) (take e (drop f bs)) = turn-fed O [] (drop f bs) 0 n e unanswered (omega arith) (omega arith) (ltb-true 0 (length (drop f bs)) p) limit end in
+          let v : fed (runOf O []) (drop f bs) ≡ stepped false (runOf O []) (drop f bs) = rw (x, q, y) at u in
+          v ∙ longer-held O (drop f bs) (omega (arith, z, ltb-false 320 e k))
+
+-- ---- of a turn that was found from a place on
+or-some : (e n : ℕ) → e ≤ n → (ltb e n || ltb 320 e) ≡ true → 0 < n
+or-some e n i h = go (ltb e n) refl h
+  where
+    go : (b : Bool) → ltb e n ≡ b → (b || ltb 320 e) ≡ true → 0 < n
+    go true q k = omega (arith, ltb-true e n q)
+    go false q k = omega (arith, ltb-true 320 e k)
+
+module _ (t : Turn) (bs : List ℕ) (at : ℕ) (found : t ≡ turnOf (openedIn t) bs at) where
+  from-is : t .from ≡ min at (length bs)
+  unfolding turnOf
+  from-is = ap (λ (x : Turn). x .from) found
+
+  to-is : t .to ≡ min at (length bs) + bytesAt bs at
+  unfolding turnOf
+  to-is = ap (λ (x : Turn). x .to) found
+
+  past-is : t .past ≡ min at (length bs) + min (bytesAt bs at + 1) (limitAt bs at)
+  unfolding turnOf
+  past-is = ap (λ (x : Turn). x .past) found
+
+  whole-is : t .whole ≡ (not (isAnswered (answerView (t .answer))) && (ltb (bytesAt bs at) (limitAt bs at) || ltb 320 (bytesAt bs at)))
+  unfolding turnOf
+  whole-is = ap (λ (x : Turn). x .whole) found
+
+  bytes-within : bytesAt bs at ≤ limitAt bs at
+  bytes-within = omega (arith, end-within (take (limitAt bs at) (leftAt bs at)), length-take (limitAt bs at) (leftAt bs at))
+
+  line-is : lineOn t bs ≡ take (bytesAt bs at) (leftAt bs at)
+  unfolding partOf
+  line-is = let z : min at (length bs) + bytesAt bs at - min at (length bs) ≡ bytesAt bs at = omega arith in rw (from-is, to-is, z)
+
+  module _ (whole : t .whole ≡ true) where
+    given-now : (isAnswered (answerView (t .answer)) ≡ false) × ((ltb (bytesAt bs at) (limitAt bs at) || ltb 320 (bytesAt bs at)) ≡ true)
+    given-now = not-and (isAnswered (answerView (t .answer))) (ltb (bytesAt bs at) (limitAt bs at) || ltb 320 (bytesAt bs at)) (sym whole-is ∙ whole)
+
+    some-left : 0 < limitAt bs at
+    some-left = or-some (bytesAt bs at) (limitAt bs at) bytes-within (given-now .1)
+
+    -- what is left is shorter
+    pub turn-less : (t .from < t .past) × (t .past ≤ length bs)
+    turn-less = (omega (arith, from-is, past-is, some-left), omega (arith, past-is, length-drop (min at (length bs)) bs))
+
+    -- the next line is given
+    pub turn-goes : (w : World) → fed (runOf (handsBack (openedIn t) w) []) (drop (t .from) bs) ≡ fed (runOf (lineOf (view (t .«record»)) (lineOn t bs) w) []) (drop (t .past) bs)
+    turn-goes w =
+        rw (line-is, from-is, past-is)
+        (line-given (handsBack (openedIn t) w) bs (min at (length bs)) (limitAt bs at) (bytesAt bs at) (given-now .0) refl refl (given-now .1) some-left)
+
+  -- no line is left to give
+  pub turn-over : t .whole ≡ false → (w : World) → fed (runOf (handsBack (openedIn t) w) []) (drop (t .from) bs) ≡ turnView t bs w
+  unfolding turnView
+  turn-over h w = go (isAnswered (answerView (t .answer))) refl (sym whole-is ∙ h)
+    where
+      go : (a : Bool) → isAnswered (answerView (t .answer)) ≡ a → (not a && (ltb (bytesAt bs at) (limitAt bs at) || ltb 320 (bytesAt bs at))) ≡ false
+          → fed (runOf (handsBack (openedIn t) w) []) (drop (t .from) bs) ≡ runOf (handsBack (openedIn t) w) (cond a [] (drop (t .from) bs))
+      go true q k = kept (runOf (handsBack (openedIn t) w) []) (drop (t .from) bs) q
+      go false q k = rw from-is (line-begun (handsBack (openedIn t) w) bs (min at (length bs)) (limitAt bs at) (bytesAt bs at) q refl refl k)

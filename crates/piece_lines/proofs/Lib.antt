@@ -1,0 +1,4 @@
+pub mod Laws
+pub mod Given
+pub mod Again
+pub mod Rests

@@ -1,0 +1,3 @@
+pub mod Turns
+pub mod Gives
+pub mod Own

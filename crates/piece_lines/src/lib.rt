@@ -1,0 +1,31 @@
+// All lines that a piece of the input has whole, given to the record one after the other.
+//
+// The readings are an array of the caller's. It is lent for all lines of a piece at once, so that it is not copied once a line.
+mod all_lines; // the loop over a piece's lines
+mod giving; // one of them, given to the record
+mod lines; // the line of a turn, and the turn after it
+mod next; // the next line of a piece
+mod own; // the same for readings in an array of the caller's
+
+use answers::Answer;
+pub use own::give_own;
+use readings::Reading;
+use site::Record;
+
+pub struct Turn {
+    // after the lines given so far
+    pub record: Record,
+    pub answer: Answer,
+    // the next line: its first byte, its end, and what comes after it
+    pub from: usize,
+    pub to: usize,
+    pub past: usize,
+    // whether it is to be given: it has its byte 10 or its 321st byte, and there is no answer yet
+    pub whole: bool,
+}
+
+// After the lines of a piece.
+pub struct KeptTurn {
+    pub turn: Turn,
+    pub readings: [Reading; 600],
+}

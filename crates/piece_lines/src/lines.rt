@@ -1,0 +1,45 @@
+// The line of a turn, and the turn after it.
+use crate::Turn;
+use crate::next::next_turn;
+use begun::least;
+use site::Opened;
+use site::Record;
+ghost use mathlib.Core.Path.{_≡_};
+ghost use Rattle.piece_lines.specs.Turns.{partOf, turnOf};
+
+// A line is a part of its piece.
+fn line_in(piece: &[u8], from: usize, to: usize) -> &[u8]
+    ensures { λ r. ⌜ now r ≡ partOf (now (piece .entry)) from to ⌝ }
+{
+    let e = least(to, piece.len());
+    let a = least(from, e);
+    &piece[a..e]
+}
+
+// The turn's line.
+pub(crate) fn line_of(turn: Turn, piece: &[u8]) -> &[u8]
+    ensures { λ r. ⌜ now r ≡ partOf (now (piece .entry)) (turn .from) (turn .to) ⌝ }
+{
+    line_in(piece, turn.from, turn.to)
+}
+
+// Whether the turn has a line to give.
+pub(crate) fn has_line(turn: Turn) -> bool
+    ensures { λ r. ⌜ r ≡ turn .whole ⌝ }
+{
+    turn.whole
+}
+
+// The record that it is given to.
+pub(crate) fn record_of(turn: Turn) -> Record
+    ensures { λ r. ⌜ r ≡ turn .«record» ⌝ }
+{
+    turn.record
+}
+
+// The next turn, once the line has been given.
+pub(crate) fn turn_after(opened: Opened, turn: Turn, piece: &[u8]) -> Turn
+    ensures { λ r. ⌜ r ≡ turnOf opened (now (piece .entry)) (turn .past) ⌝ }
+{
+    next_turn(opened, piece, turn.past)
+}

@@ -1,4 +1,0 @@
-// 16 on profiles.
-mod profiles;
-
-pub use profiles::lacks_profile;
