@@ -59,7 +59,7 @@ pub(crate) fn judge_reading(
 ) -> ReadingJudged
     ensures { λ r. ⌜ OfTag X told (λ l. r ≡ readingJudged (refusal (beforeReading last (historyYears al filiere) latest previous readings) l) (historyYears al filiere) l) ⌝ }
 {
-    let r = crate::forms::read_reading(told);
+    let r = axis_fields::read_reading(told);
     let misplaced = is_late(last, 3);
     let low = r.index <= 1_000_000_000_000;
     let inside = both(is_among(axis(al, filiere), r.year), low);
@@ -96,7 +96,7 @@ pub(crate) fn judge_daily(
 ) -> DailyJudged
     ensures { λ r. ⌜ OfTag D told (λ l. r ≡ dailyJudged (refusal (beforeRising last (historyYears al filiere) latest) l) (historyYears al filiere) l) ⌝ }
 {
-    let r = crate::forms::read_daily(told);
+    let r = axis_fields::read_daily(told);
     let misplaced = is_late(last, 4);
     let inside = both(is_among(axis(al, filiere), r.year), r.sum <= 3_145_680);
     let key = key_of(r.year, r.month, r.day);

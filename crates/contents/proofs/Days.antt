@@ -7,13 +7,14 @@ use Prim.Native.Nat.{ℕ, _+_, _-_, _/_, _%_, _≤_, _<_, min}
 use native.Mathlib.Omega.{arith}
 use lib.Dec.{T, eqb, leb, le→leb}
 use lib.ListN.{length, getD, take, drop, length-take}
-use borrow.Author.Tests.{leb-true, leb-false, eq-eqb, ne-eqb}
+use borrow.Author.Tests.{leb-true, leb-false}
 use Rattle.lists.specs.Lists.{all, allAt}
 use Rattle.lists.proofs.AllAt.{allAt-run, allAt-all, all-made, getD-part}
 use Rattle.calendar.specs.declared.Years.{Years}
 use Rattle.meaning.specs.Record.{pointFits, pointsFit, slotsFit}
 use Rattle.meaning.specs.Line.{mostProfile}
-use Rattle.contents.specs.Winter.{datedAt, slotFits}
+use Rattle.day_contents.specs.Slots.{slotFits}
+use Rattle.contents.specs.Winter.{datedAt}
 
 -- the test of each place of a block, by its date
 abbrev pub pointAt : Years → ℕ → ℕ → ℕ → Bool
@@ -75,10 +76,3 @@ pub dated-slots : (xs : List ℕ) (n i : ℕ) → ((k : ℕ) → getD xs k 0 ≤
 dated-slots xs n i h = all-made (slotFits true) (take n (drop i xs)) (λ k. value-fits _ (omega (arith, getD-part n i k xs, h (i + k))))
 
 -- ---- and those of a day without a date
-pub slot-fresh : (v : ℕ) → v ≡ 0 → slotFits false v ≡ true
-unfolding slotFits
-slot-fresh v e = simp (eq-eqb v 0 e)
-
-pub slot-held : (v : ℕ) → (v ≡ 0 → ⊥) → slotFits false v ≡ false
-unfolding slotFits
-slot-held v e = simp (ne-eqb v 0 e)

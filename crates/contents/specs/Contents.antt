@@ -5,7 +5,8 @@ use Prim.Native.Nat.{ℕ, _-_}
 use Rattle.calendar.specs.declared.Years.{Years}
 use Rattle.meaning.specs.Record.{pointsFit, slotsFit, dailyFits, readingsFit}
 use Rattle.readings.specs.Columns.{readingsIn}
-unfoldable pub use Rattle.contents.specs.Winter.{datedAt, slotFits}
+unfoldable pub use Rattle.day_contents.specs.Slots.{slotFits}
+unfoldable pub use Rattle.contents.specs.Winter.{datedAt}
 unfoldable pub use Rattle.contents.specs.Axis.{placedAt, dayFits}
 
 -- all five, of lists and numbers: the far rows end where the near ones, which run from AL-9, begin

@@ -1,16 +1,10 @@
 -- What 1 asks at the close of one place of the blocks by winter place (document 01, Stops that come from the input).
-use mathlib.Core.Bool.{Bool, _&&_, _||_}
+use mathlib.Core.Bool.{Bool}
 use Prim.Native.Nat.{ℕ, _+_, _/_, _%_}
-use lib.Dec.{eqb, leb}
 use Rattle.calendar.specs.declared.Years.{Years}
-use Rattle.meaning.specs.Line.{mostProfile}
 use Rattle.meaning.specs.Blocks.{rowSize}
 use Rattle.meaning.specs.Record.{isDated}
 
 -- a place in rows of winter dates, the first row being a given year's, has a date of the history
 unfoldable pub datedAt : Years → ℕ → ℕ → Bool
 datedAt h first i = isDated h (first + i / rowSize) (i % rowSize / 20)
-
--- a profile value that P can give at a place with a date, or 0
-unfoldable pub slotFits : Bool → ℕ → Bool
-slotFits dated v = eqb v 0 || (dated && leb v mostProfile)

@@ -2,28 +2,12 @@
 use crate::winter_blocks::day_end;
 use crate::winter_blocks::is_dated;
 use calendar::Years;
+use day_contents::all_zero;
 ghost use mathlib.Core.Path.{_≡_};
-ghost use mathlib.Core.Bool.{false};
 ghost use Prim.Native.Nat.{_≤_};
-ghost use Rattle.lists.specs.Lists.{all};
 ghost use Rattle.meaning.specs.Record.{slotsFit};
-ghost use Rattle.contents.specs.Winter.{slotFits};
 
 const HALF_HOURS: usize = 20;
-
-// The profile values of a day without a date.
-fn all_zero(slots: &[u16]) -> bool
-    ensures { λ r. ⌜ r ≡ all (slotFits false) (now (slots .entry)) ⌝ }
-{
-    let mut i = 0;
-    while i < slots.len() {
-        if slots[i] != 0 {
-            return false;
-        }
-        i += 1;
-    }
-    true
-}
 
 // A profile value of a day that has a date can be any: no u16 is above 65,535.
 pub(crate) fn slots_fit(slots: &[u16], history: Years) -> bool

@@ -1,19 +1,15 @@
 // What 1 asks at the close of the points: at a date of the history what C can give, elsewhere missing.
 ghost use mathlib.Core.Path.{_≡_};
 ghost use Prim.Native.Nat.{_+_, _≤_, min};
-ghost use Rattle.lists.specs.Lists.{all};
-ghost use Rattle.meaning.specs.Record.{pointFits, pointsFit};
+ghost use Rattle.meaning.specs.Record.{pointsFit};
 ghost use Rattle.contents.specs.Winter.{datedAt};
 use calendar::Years;
+use day_contents::points_on_day;
 
 // 152 winter places of 20 half-hours.
 const ROW: usize = 3040;
 
 const HALF_HOURS: usize = 20;
-
-const MISSING: u32 = 4294967295;
-
-const MOST_POWER: u32 = 100000000;
 
 // Whether a place in rows of winter dates has a date of the history: the first row is that of the year first.
 pub(crate) fn is_dated(history: Years, first: u64, place: usize) -> bool
@@ -36,33 +32,6 @@ pub(crate) fn day_end(place: usize, length: usize) -> usize
         return length;
     }
     place + HALF_HOURS
-}
-
-// The points of one day.
-fn points_on_day(points: &[u32], dated: bool) -> bool
-    ensures { λ r. ⌜ r ≡ all (pointFits dated) (now (points .entry)) ⌝ }
-{
-    let mut i = 0;
-    while i < points.len() {
-        let v = points[i];
-        if !point_fits(dated, v) {
-            return false;
-        }
-        i += 1;
-    }
-    true
-}
-
-fn point_fits(dated: bool, v: u32) -> bool
-    ensures { λ r. ⌜ r ≡ pointFits dated v ⌝ }
-{
-    if v == MISSING {
-        return true;
-    }
-    if !dated {
-        return false;
-    }
-    v <= MOST_POWER
 }
 
 // The near block where the first row is that of AL-9, the far block where it is that of AL-14. A day's date is looked up once.

@@ -1,8 +1,8 @@
 // 1: a number in the record is outside its field's range.
 use intake::both;
 use ranges::lasts_fit;
-use ranges::site_fits;
 use ranges::tallies_fit;
+use site_ranges::site_fits;
 use steps::Progress;
 ghost use mathlib.Core.Path.{_≡_};
 ghost use mathlib.Core.Bool.{cond};

@@ -21,8 +21,8 @@ use Rattle.meaning.specs.Record.{Rec, inState, isTaken, siteOfRec, historyOfSit
 use Rattle.meaning.specs.Calls.{refused, reports, out, withCurve, closed, closeOf}
 use Rattle.demands.proofs.Bound.Counted.{some-point}
 use Rattle.readings.specs.Columns.{Columned}
-use Rattle.ending.specs.declared.report.Closing.{Closing}
-use Rattle.ending.specs.Rows.{refusedBy}
+use Rattle.ended.specs.declared.file.Closing.{Closing}
+use Rattle.ended.specs.Rows.{refusedBy}
 use Rattle.ending.specs.Closes.{FileFits, Handed, handsBack, reportShown, handedBy, closingMeant}
 use Rattle.ending.proofs.Held.{site-words}
 use Rattle.ending.proofs.Years.{YearsReported, years-reported}

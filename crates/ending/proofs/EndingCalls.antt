@@ -22,17 +22,19 @@ use Rattle.readings.proofs.Laws.{seen-length, columns-all}
 use Rattle.readings.proofs.Columned.{columned, seen-in}
 use Rattle.steps.specs.declared.Progress.{Progress}
 use Rattle.steps.specs.Views.{recOf}
-use Rattle.ending.specs.declared.report.Closing.{Closing}
+use Rattle.ended.specs.declared.file.Closing.{Closing}
 use Rattle.ending.specs.Closes as file
 use Rattle.ending.specs.Closes.{FileFits, reportShown, closingMeant}
 use Rattle.ending.proofs.ClosingCalls.{filing-is, file-fits, close-of, close-unended, close-refuses, close-reports}
 use Rattle.answers.specs.declared.Answer.the-variants.{Refused, Reports}
 use Rattle.first_stops.specs.Stops.{lengthsFit}
 use Rattle.first_stops.proofs.Laws.{six, parts}
-use Rattle.ending.specs.declared.ended.Ended.{Ended}
-use Rattle.ending.specs.Stops.{allFit, closeStop}
-use Rattle.ending.specs.Ends.{Handed, hands, endsBack, noYears, answerShown, yearsBeside, handed, refusedOf, toldOf}
-use Rattle.ending.proofs.Laws.{within, all-fit, not-stopped}
+use Rattle.ended.specs.declared.told.Ended.{Ended}
+use Rattle.first_stops.specs.Stops.{closeStop}
+use Rattle.ending.specs.Stops.{allFit}
+use Rattle.ended.specs.Ends.{Handed, hands, endsBack, noYears, answerShown, yearsBeside, handed, refusedOf, toldOf}
+use Rattle.first_stops.proofs.Laws.{not-stopped}
+use Rattle.ending.proofs.Laws.{within, all-fit}
 
 -- ---- 1, 13 and 14
 stopped-out : (s : Rec) (w : World) (n : ℕ) → n ≡ closeStop (sizesFit w && (recFits s && contentsFit s w)) (s .state) (s .last) → (n ≡ 0 → ⊥)

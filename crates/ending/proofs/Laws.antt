@@ -1,4 +1,4 @@
--- What the stops of a close tell: sizes, ranges and contents that fit, an open record, and E taken.
+-- What 1 tells of a close: sizes, ranges and contents that fit.
 use mathlib.Core.Path.{_≡_, refl, ap, sym, subst, _∙_}
 use mathlib.Core.Bool.{Bool, true, false, _&&_, _||_, not, cond}
 use mathlib.Core.List.{List, []}
@@ -17,10 +17,10 @@ use Rattle.meaning.specs.Record.{Rec, isTaken, isWithin, historyOfSite, history
 use Rattle.readings.specs.Columns.{readingsIn, world, worldIn, Columned}
 use Rattle.contents.specs.Contents.{contentsIn}
 use Rattle.contents.proofs.Laws.{contents-fit}
-use Rattle.first_stops.specs.Stops.{lengthsFit, earlyStop}
+use Rattle.first_stops.specs.Stops.{lengthsFit}
 use Rattle.early.proofs.Gave.{al-given, filiere-given}
 use Rattle.first_stops.proofs.Laws.{sized, by-lengths, parts}
-use Rattle.ending.specs.Stops.{allFit, closeStop}
+use Rattle.ending.specs.Stops.{allFit}
 
 -- ---- what a record within its ranges has
 few-of : (b : Bool) (al : ℕ) → T ((b && eqb al 0) || isWithin 2021 2026 al) → al ≤ 9999
@@ -93,25 +93,3 @@ module _ (s : Rec) (r c : ℕ) (w : World) (a b x : Bool)
   pub fits-all : x ≡ true → (f : Bool) → f ≡ contentsFit s w → f ≡ allFit s r c w
   unfolding allFit
   fits-all h f ef = let p = parts a b (sym ex ∙ h) in rw (← ea, ← eb, p .0, p .1) ef
-
--- ---- the numbers
--- 1 or 13
-pub stop-early : (b : Bool) (st last n : ℕ) → n ≡ earlyStop b st → (n ≡ 0 → ⊥) → n ≡ closeStop b st last
-unfolding earlyStop closeStop
-stop-early b st last n q h = go b (eqb st 1) q
-  where
-    go : (b x : Bool) → n ≡ cond b (cond x 0 13) 1 → n ≡ cond b (cond x (cond (eqb last 8) 0 14) 13) 1
-    go true true e = absurd (h e)
-    go true false e = e
-    go false x e = e
-
--- neither 1 nor 13 nor 14
-pub not-stopped : (b : Bool) (st last n : ℕ) → n ≡ closeStop b st last → n ≡ 0 → (b ≡ true) × (st ≡ 1) × (last ≡ 8)
-unfolding closeStop
-not-stopped b st last n q z = go b (eqb st 1) (eqb last 8) refl refl (sym q ∙ z)
-  where
-    go : (b x y : Bool) → eqb st 1 ≡ x → eqb last 8 ≡ y → _≡_ {A = ℕ} (cond b (cond x (cond y 0 14) 13) 1) 0 → (b ≡ true) × (st ≡ 1) × (last ≡ 8)
-    go true true true e f z = (refl, eqb→eq st 1 (rw e tt), eqb→eq last 8 (rw f tt))
-    go true true false e f z = absurd (omega arith)
-    go true false y e f z = absurd (omega arith)
-    go false x y e f z = absurd (omega arith)

@@ -27,9 +27,10 @@ use Rattle.curve.specs.declared.Filling.{Filling}
 use Rattle.curve.specs.Places.{held, basisOf, fillingOf}
 use Rattle.curve.proofs.Filings.{map-range}
 use Rattle.curve.proofs.Close.{counted-is, ncc-is, present-is}
-use Rattle.ending.specs.declared.report.Year.{Year}
+use Rattle.ended.specs.declared.file.Year.{Year}
 use Rattle.marks.specs.Marks.{byHistory, curveMarks, indexMarks}
-use Rattle.ending.specs.Rows.{yearRow, noYear, rowIn, rowsIn, reportedBy, yearShown, yearsShown}
+use Rattle.ended.specs.Rows.{yearRow, noYear, yearShown, yearsShown}
+use Rattle.ending.specs.Rows.{rowIn, rowsIn, reportedBy}
 use Rattle.ending.specs.Closes.{FileFits, reportShown}
 use Rattle.ending.proofs.Held.{cases, means}
 

@@ -17,7 +17,7 @@ use Rattle.lacks.proofs.Lacking.{partial-held, lacking-held, zero-held}
 use Rattle.cases.specs.Cases.{isCurve, caseCodes}
 use Rattle.marks.specs.Marks.{curveMarks, indexMarks, defaultMarks}
 use Rattle.lacks.specs.Stops.{firstStop, stopNumber}
-use Rattle.ending.specs.Rows.{refusedBy}
+use Rattle.ended.specs.Rows.{refusedBy}
 use Rattle.ending.specs.Closes.{FileFits, handsBack, reportShown, handedBy, closingMeant}
 use Rattle.ending.proofs.Held.{rise, valid-set, default-set}
 

@@ -22,10 +22,11 @@ use Rattle.curve.specs.Places.{held, basisOf, fillingOf, curveIn}
 use Rattle.curve.specs.Fits.{ListsFit, Filled}
 use Rattle.curve.proofs.Close.{exceeds-is, counted-is, curve-is}
 use Rattle.marks.specs.declared.Marks.{Marks}
-use Rattle.ending.specs.declared.report.Closing.{Closing}
+use Rattle.ended.specs.declared.file.Closing.{Closing}
 use Rattle.marks.specs.Marks.{marksBy, marksHeld, curveMarks, indexMarks, defaultMarks}
 use Rattle.lacks.specs.Stops.{stopNumber}
-use Rattle.ending.specs.Rows.{refusedBy, reportedBy}
+use Rattle.ended.specs.Rows.{refusedBy}
+use Rattle.ending.specs.Rows.{reportedBy}
 use Rattle.ending.specs.Closes.{FileFits, handsBack, closingMeant}
 use Rattle.ending.proofs.Held.{known, short, oldest, lists-fit, means}
 use Rattle.ending.proofs.Stopped.{stopped, exceeded, reports}

@@ -13,8 +13,8 @@ use Rattle.calendar.specs.Spans.{isKnown, historyYears}
 use Rattle.calendar.proofs.Laws.{history-bounds, history-short}
 use Rattle.meaning.specs.Filing.{Filing, historyOf, yearsIn, historyList}
 use Rattle.meaning.specs.Level.{YearReport, yearReport, reportOf}
-use Rattle.ending.specs.declared.report.Year.{Year}
-use Rattle.ending.specs.Rows.{noYear, yearShown, yearsShown}
+use Rattle.ended.specs.declared.file.Year.{Year}
+use Rattle.ended.specs.Rows.{noYear, yearShown, yearsShown}
 
 -- a row with a year
 abbrev pub hasYear : Year → Bool

@@ -12,8 +12,8 @@ use Rattle.meaning.specs.Closing.{Lack, lackNumber, closingRefusal}
 use Rattle.meaning.specs.Blocks.{World, sizesFit, readingsOf}
 use Rattle.meaning.specs.Record.{Tallies, historyOfSite, siteFits, talliesFit, pointsFit, slotsFit, dailyFits, readingsFit}
 use Rattle.readings.specs.Columns.{Columned}
-use Rattle.ending.specs.declared.report.Closing.{Closing}
-use Rattle.ending.specs.Rows.{closing, refusedBy, yearsShown}
+use Rattle.ended.specs.declared.file.Closing.{Closing}
+use Rattle.ended.specs.Rows.{closing, refusedBy, yearsShown}
 
 -- ---- 1 of a file whose S was taken: site, number of readings and tallies are in their ranges, and the blocks hold what lines can give
 pub record FileFits (t : Site) (n : ℕ) (k : Tallies) (w : World) (ps xs ks : List ℕ) : Type 0 where

@@ -1,4 +1,3 @@
 pub mod Stops
 pub mod Closes
 pub mod Rows
-pub mod Ends

@@ -1,11 +1,11 @@
 // The close.
-use crate::ended::Ended;
-use crate::ended::refuse;
-use crate::ended::stopped_state;
-use crate::ended::tell;
 use crate::file::close_file;
-use crate::report::Closing;
 use crate::stops::close_stop;
+use ended::Closing;
+use ended::Ended;
+use ended::refuse;
+use ended::stopped_state;
+use ended::tell;
 use readings::Columns;
 use steps::Progress;
 ghost use mathlib.Core.Path.{_≡_};
@@ -19,7 +19,7 @@ ghost use Rattle.readings.specs.Columns.{world, worldIn};
 ghost use Rattle.readings.specs.Lent.{EachColumns};
 ghost use Rattle.steps.specs.Views.{recOf};
 ghost use Rattle.ending.specs.Closes.{FileFits, handsBack, closingMeant};
-ghost use Rattle.ending.specs.Ends.{endsBack, handed};
+ghost use Rattle.ended.specs.Ends.{endsBack, handed};
 
 // The close of the file, by the record's progress and the columns.
 fn close_held<'a>(

@@ -11,8 +11,8 @@ ghost use Rattle.points.specs.Sources.{casFrom};
 ghost use Rattle.curve.specs.Places.{held, basisOf};
 ghost use Rattle.curve.specs.Fits.{SiteFits, ListsFit, Filled};
 ghost use Rattle.ending.specs.Closes.{FileFits, handsBack, closingMeant};
-use crate::report::Closing;
 use curve::Filling;
+use ended::Closing;
 use intake::Site;
 use marks::Marks;
 use ranges::Tallies;
@@ -84,14 +84,14 @@ pub(crate) fn close_file<'a>(
     intervals::days::spread(positions, indexes, daily, size, &mut e, &mut totals);
     let number = lacks::stop_number(h, tallies, m, positions, size, &totals);
     if number != 0 {
-        return crate::report::refused(number);
+        return ended::refused(number);
     }
     let codes = m.codes;
     let mut filled = [MISSING; 4400];
     let f = filled_by(site, tallies, m, near, far, slots, &e, &totals, &mut filled);
     lent_curve::lend(f.exceeds, &filled, curve);
     if f.exceeds {
-        return crate::report::refused(18);
+        return ended::refused(18);
     }
     crate::report::reported(site.al, site.filiere, h, codes, f)
 }

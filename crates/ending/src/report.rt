@@ -1,27 +1,14 @@
-// What the close of a file hands back: a refusal, or level, points, years and curve (document 01, Calls and the lines of a file).
+// A report of a file that nothing refuses: level, points and years (document 01, Calls and the lines of a file).
 use calendar::Years;
 use cases::Case;
 use curve::Filling;
+use ended::Closing;
+use ended::Year;
 ghost use mathlib.Core.Path.{_≡_};
 ghost use Prim.Native.Nat.{_≤_, _<_, _*_};
 ghost use Rattle.meaning.specs.Text.{letterOfCase};
 ghost use Rattle.cases.specs.Cases.{meantCase};
-ghost use Rattle.ending.specs.Rows.{rowIn, rowsIn, refusedBy, reportedBy};
-
-// A history year: its case as the sheet has it, and its points present. All 0 where the file has no such year.
-pub struct Year {
-    pub year: u64,
-    pub case: u8,
-    pub present: u64,
-}
-
-// A refusal's number, and 0 else; or number 0 with the level in W, the points counted and the years.
-pub struct Closing {
-    pub number: u64,
-    pub level: u64,
-    pub points: u64,
-    pub years: [Year; 10],
-}
+ghost use Rattle.ending.specs.Rows.{rowIn, rowsIn, reportedBy};
 
 // A case as the sheet has it.
 fn letter_of(case: Case) -> u8
@@ -67,22 +54,6 @@ fn rows(h: Years, codes: [u64; 10], present: [u64; 10]) -> [Year; 10]
         k += 1;
     }
     years
-}
-
-pub(crate) fn refused(number: u64) -> Closing
-    ensures { λ r. ⌜ r ≡ refusedBy number ⌝ }
-{
-    let none = Year {
-        year: 0,
-        case: 0,
-        present: 0,
-    };
-    Closing {
-        number,
-        level: 0,
-        points: 0,
-        years: [none; 10],
-    }
 }
 
 pub(crate) fn reported(al: u64, filiere: u64, h: Years, codes: [u64; 10], f: Filling) -> Closing

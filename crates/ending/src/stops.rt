@@ -2,7 +2,7 @@
 use contents::contents_fit;
 use early::given;
 use early::record_fits;
-use first_stops::open_stop;
+use first_stops::ended_stop;
 use first_stops::sizes_fit;
 use intake::both;
 use readings::Columns;
@@ -14,21 +14,8 @@ ghost use mathlib.Core.List.{[]};
 ghost use Prim.Native.Nat.{_≤_};
 ghost use Rattle.readings.specs.Columns.{worldIn};
 ghost use Rattle.steps.specs.Views.{recOf};
-ghost use Rattle.ending.specs.Stops.{FoundFit, allFit, closeStop};
-
-// 1 before 13 before 14: E was not taken. 0 for none.
-fn ended_stop(fit: bool, state: u64, last: u64) -> u64
-    ensures { λ r. ⌜ r ≡ closeStop fit state last ⌝ }
-{
-    let early = open_stop(fit, state);
-    if early != 0 {
-        return early;
-    }
-    if last != 8 {
-        return 14;
-    }
-    0
-}
+ghost use Rattle.first_stops.specs.Stops.{closeStop};
+ghost use Rattle.ending.specs.Stops.{FoundFit, allFit};
 
 // 1, by what the blocks hold; whatever the record's state and count.
 fn blocks_fit(

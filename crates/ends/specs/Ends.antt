@@ -5,7 +5,7 @@ use mathlib.Core.List.{List, []}
 use Prim.Native.Nat.{ℕ, _-_}
 use lib.Dec.{eqb}
 use lib.IntN.{ℤ, pos, negsuc}
-use Rattle.ending.specs.declared.report.Year.{Year}
+use Rattle.ended.specs.declared.file.Year.{Year}
 use Rattle.answers.specs.declared.Answer as answers
 use Rattle.shown.specs.Shown.{sheetText, Holds}
 use Rattle.ends.specs.declared.End.{End}

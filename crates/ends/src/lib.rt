@@ -1,7 +1,7 @@
 // When a run stops reading, and what it hands out.
 use answers::Answer;
 use begun::least;
-use ending::Year;
+use ended::Year;
 use shown::Printed;
 use shown::text;
 ghost use mathlib.Core.Path.{_≡_};

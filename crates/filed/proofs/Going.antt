@@ -18,9 +18,9 @@ use Rattle.pieces.specs.Run.{Run, isAnswered, started, fed, fedAll, ended, ranO
 use Rattle.pieces.specs.Promise.{mostInput}
 use Rattle.pieces.proofs.Feeding.{fed-append, kept}
 use Rattle.pieces.proofs.Answers.{answer-comes}
-use Rattle.ending.specs.declared.report.Year.{Year}
+use Rattle.ended.specs.declared.file.Year.{Year}
 use Rattle.answers.specs.declared.Answer as answers
-use Rattle.ending.specs.Ends.{Handed, hands, handed}
+use Rattle.ended.specs.Ends.{Handed, hands, handed}
 use Rattle.shown.specs.declared.Printed.{Printed}
 use Rattle.shown.specs.Shown.{sheetText, Holds}
 use Rattle.sheet.proofs.Texts.{sheet-text}

@@ -8,6 +8,7 @@ use lib.ListN.{length, drop}
 use Rattle.meaning.specs.Blocks.{World}
 use Rattle.meaning.specs.Calls.{lineOf}
 use Rattle.pieces.specs.Run.{runOf, fed}
+use Rattle.next_lines.specs.Found.{foundAt}
 use Rattle.site.specs.declared.Opened.{Opened}
 use Rattle.site.specs.Views.{view, handsBack}
 use Rattle.piece_lines.specs.declared.Turn.{Turn}
@@ -24,7 +25,7 @@ unfolding turnOf
 called-again o bs at v = refl
 
 from-first : (o : Opened) (bs : List ℕ) → (turnOf o bs 0) .from ≡ 0
-unfolding turnOf
+unfolding turnOf foundAt
 from-first o bs = omega arith
 
 pub given-by : (t : Turn) (bs line : List ℕ) (o : Opened) (r : Turn) (w v : World) → line ≡ lineOn t bs → handsBack o v ≡ lineOf (view (t .«record»)) line w → r ≡ turnOf o bs (t .past) → Gives r t bs w v
@@ -52,7 +53,7 @@ going-first o bs w₀ t e = record {
 module _ (o : Opened) (bs : List ℕ) (w₀ : World) (t : Turn) (w : World) (g : Going o bs w₀ t w) where
   module _ (whole : t .whole ≡ true) (r : Turn) (v : World) (given : Gives r t bs w v) where
     place : r .from ≡ t .past
-    unfolding turnOf
+    unfolding turnOf foundAt
     place = ap (λ (x : Turn). x .from) (given .found) ∙ omega (arith, turn-less t bs (g .at) (g .found) whole)
 
     pub going-next : Going o bs w₀ r v

@@ -5,7 +5,7 @@ use mathlib.Core.List.{List, [], _∷_}
 use Prim.Native.Nat.{ℕ, _+_, _-_, _≤_, _<_, min}
 use native.Mathlib.Omega.{arith}
 use lib.Dec.{ltb}
-use lib.ListN.{length, take, drop, length-take, length-drop, drop-of-length-le, take-append-drop}
+use lib.ListN.{length, take, drop, length-take, length-drop, take-append-drop}
 use lib.Seq.{take-all, drop-drop}
 use borrow.Author.Tests.{ltb-true, ltb-false}
 use Rattle.meaning.specs.Blocks.{World}
@@ -13,57 +13,20 @@ use Rattle.meaning.specs.Calls.{Out, lineOf}
 use Rattle.pieces.specs.Run.{runOf, isAnswered, given, longer, fed}
 use Rattle.pieces.specs.Parts.{endAt, stepped}
 use Rattle.pieces.proofs.Feeding.{fed-append, kept}
-use Rattle.pieces.proofs.Parts.{end-within, longer-given, longer-held, none-left, rest-is, turn-fed}
+use Rattle.pieces.proofs.Parts.{end-within, longer-given, longer-held, none-left, turn-fed}
 use Rattle.answers.specs.Views.{answerView}
+use Rattle.next_lines.specs.declared.Found.{Found}
+use Rattle.next_lines.specs.Found.{partOf, leftAt, limitAt, bytesAt, foundAt}
 use Rattle.site.specs.declared.Opened.{Opened}
 use Rattle.site.specs.Views.{view, handsBack}
 use Rattle.piece_lines.specs.declared.Turn.{Turn}
-use Rattle.piece_lines.specs.Turns.{partOf, leftAt, limitAt, bytesAt, turnOf, openedIn, lineOn, turnView}
+use Rattle.piece_lines.specs.Turns.{turnOf, openedIn, lineOn, turnView}
 
--- ---- a part whose ends are within the piece
-none-taken : (n : ℕ) → take {A = ℕ} n [] ≡ []
-none-taken n = take-all {A = ℕ} n [] (omega arith)
-
-pub part-is : (bs : List ℕ) (from to e a : ℕ) → e ≡ min to (length bs) → a ≡ min from e → take (e - a) (drop a bs) ≡ partOf bs from to
-unfolding partOf
-part-is bs from to e a p q = go (ltb e from) refl (ltb (length bs) to) refl
-  where
-    go : (x : Bool) → ltb e from ≡ x → (y : Bool) → ltb (length bs) to ≡ y → take (e - a) (drop a bs) ≡ take (to - from) (drop from bs)
-    go true h true k =
-        let z : e - a ≡ 0 = omega (arith, ltb-true e from h) in
-        let o : length bs ≤ from = omega (arith, ltb-true e from h, ltb-true (length bs) to k) in
-        rw (z, drop-of-length-le bs o) (sym (none-taken (to - from)))
-    go true h false k =
-        let z : e - a ≡ 0 = omega (arith, ltb-true e from h) in
-        let y : to - from ≡ 0 = omega (arith, ltb-true e from h, ltb-false (length bs) to k) in
-        rw (z, y)
-    go false h true k =
-        let x : a ≡ from = omega (arith, ltb-false e from h) in
-        let b : length (drop from bs) ≤ e - from = omega (arith, length-drop from bs, ltb-true (length bs) to k) in
-        let c : length (drop from bs) ≤ to - from = omega (arith, length-drop from bs, ltb-true (length bs) to k) in
-        rw (x, take-all (e - from) (drop from bs) b, take-all (to - from) (drop from bs) c)
-    go false h false k =
-        let x : a ≡ from = omega (arith, ltb-false e from h) in
-        let y : e ≡ to = omega (arith, ltb-false (length bs) to k) in
-        rw (x, y)
-
--- ---- the bytes of a turn
-pub limited : (t : List ℕ) (n : ℕ) → n ≡ min 321 (length t) → n ≡ length (take n t)
-limited t n h = omega (arith, h, length-take n t)
-
--- the line's bytes are within its limit, and that within the piece
-pub turn-fits : (bs : List ℕ) (at f n e : ℕ) → f ≡ min at (length bs) → n ≡ min 321 (length (take (length bs - f) (drop f bs))) → e ≡ endAt (take n (take (length bs - f) (drop f bs)))
-    → (f + n ≤ length bs) × (e ≤ n)
-turn-fits bs at f n e p q r =
-    let t = take (length bs - f) (drop f bs) in
-    (omega (arith, p, q, length-take (length bs - f) (drop f bs), length-drop f bs), omega (arith, r, end-within (take n (take (length bs - f) (drop f bs))), length-take n (take (length bs - f) (drop f bs))))
-
-pub turn-is : (o : Opened) (bs : List ℕ) (at f n e u : ℕ) (w : Bool) → f ≡ min at (length bs) → n ≡ min 321 (length (take (length bs - f) (drop f bs)))
-    → e ≡ endAt (take n (take (length bs - f) (drop f bs))) → u ≡ min (e + 1) n
-    → w ≡ (not (isAnswered (answerView (o .answer))) && (ltb e n || ltb 320 e))
-    → record { «record» = o .«record»; answer = o .answer; from = f; to = f + e; past = f + u; whole = w } ≡ turnOf o bs at
+-- ---- the turn by the line found
+pub turn-is : (o : Opened) (bs : List ℕ) (at : ℕ) (f : Found) (w : Bool) → f ≡ foundAt bs at → w ≡ (not (isAnswered (answerView (o .answer))) && f .whole)
+    → record { «record» = o .«record»; answer = o .answer; from = f .from; to = f .to; past = f .past; whole = w } ≡ turnOf o bs at
 unfolding turnOf
-turn-is o bs at f n e u w p q r s t = rw (t, s, r, q, rest-is bs f, p)
+turn-is o bs at f w p t = rw (t, p)
 
 -- ---- the next turn of a run
 not-and : (a b : Bool) → (not a && b) ≡ true → (a ≡ false) × (b ≡ true)
@@ -116,19 +79,19 @@ or-some e n i h = go (ltb e n) refl h
 
 module _ (t : Turn) (bs : List ℕ) (at : ℕ) (found : t ≡ turnOf (openedIn t) bs at) where
   from-is : t .from ≡ min at (length bs)
-  unfolding turnOf
+  unfolding turnOf foundAt
   from-is = ap (λ (x : Turn). x .from) found
 
   to-is : t .to ≡ min at (length bs) + bytesAt bs at
-  unfolding turnOf
+  unfolding turnOf foundAt
   to-is = ap (λ (x : Turn). x .to) found
 
   past-is : t .past ≡ min at (length bs) + min (bytesAt bs at + 1) (limitAt bs at)
-  unfolding turnOf
+  unfolding turnOf foundAt
   past-is = ap (λ (x : Turn). x .past) found
 
   whole-is : t .whole ≡ (not (isAnswered (answerView (t .answer))) && (ltb (bytesAt bs at) (limitAt bs at) || ltb 320 (bytesAt bs at)))
-  unfolding turnOf
+  unfolding turnOf foundAt
   whole-is = ap (λ (x : Turn). x .whole) found
 
   bytes-within : bytesAt bs at ≤ limitAt bs at

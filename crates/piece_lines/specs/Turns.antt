@@ -1,42 +1,27 @@
--- The next line of a piece (document 01, The printed sheet).
-use mathlib.Core.Bool.{_&&_, _||_, not, cond}
+-- A run and the next line of its piece (document 01, The printed sheet).
+use mathlib.Core.Bool.{_&&_, not, cond}
 use mathlib.Core.List.{List, []}
-use Prim.Native.Nat.{ℕ, _+_, _-_, min}
-use lib.Dec.{ltb}
-use lib.ListN.{length, take, drop}
+use Prim.Native.Nat.{ℕ}
+use lib.ListN.{drop}
 use Rattle.meaning.specs.Line.{Line}
 use Rattle.meaning.specs.Blocks.{World}
 use Rattle.pieces.specs.Run as meant
-use Rattle.pieces.specs.Run.{runOf, isAnswered, mostBytes}
-use Rattle.pieces.specs.Parts.{endAt}
+use Rattle.pieces.specs.Run.{runOf, isAnswered}
 use Rattle.answers.specs.Views.{answerView}
+use Rattle.next_lines.specs.Found.{partOf, foundAt}
 use Rattle.site.specs.declared.Opened.{Opened}
 use Rattle.site.specs.Views.{handsBack}
 use Rattle.piece_lines.specs.declared.Turn.{Turn}
 
--- the bytes of a piece from one place up to another
-unfoldable pub partOf : List ℕ → ℕ → ℕ → Line
-partOf bs from to = take (to - from) (drop from bs)
-
--- what is left from a place on; how much of it can be the next line's; how many bytes that line has
-abbrev pub leftAt : List ℕ → ℕ → List ℕ
-leftAt bs at = drop (min at (length bs)) bs
-
-abbrev pub limitAt : List ℕ → ℕ → ℕ
-limitAt bs at = min (mostBytes + 1) (length (leftAt bs at))
-
-abbrev pub bytesAt : List ℕ → ℕ → ℕ
-bytesAt bs at = endAt (take (limitAt bs at) (leftAt bs at))
-
--- the line that starts there is given once it has its byte 10 or its 321st byte, unless there is an answer
+-- the line that starts there is given once it is whole, unless there is an answer
 unfoldable pub turnOf : Opened → List ℕ → ℕ → Turn
 turnOf o bs at = record {
   «record» = o .«record»;
   answer = o .answer;
-  from = min at (length bs);
-  to = min at (length bs) + bytesAt bs at;
-  past = min at (length bs) + min (bytesAt bs at + 1) (limitAt bs at);
-  whole = not (isAnswered (answerView (o .answer))) && (ltb (bytesAt bs at) (limitAt bs at) || ltb mostBytes (bytesAt bs at));
+  from = foundAt bs at .from;
+  to = foundAt bs at .to;
+  past = foundAt bs at .past;
+  whole = not (isAnswered (answerView (o .answer))) && foundAt bs at .whole;
 }
 
 -- what the last call handed back

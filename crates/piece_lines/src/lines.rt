@@ -1,20 +1,12 @@
 // The line of a turn, and the turn after it.
 use crate::Turn;
 use crate::next::next_turn;
-use begun::least;
+use next_lines::line_in;
 use site::Opened;
 use site::Record;
 ghost use mathlib.Core.Path.{_≡_};
-ghost use Rattle.piece_lines.specs.Turns.{partOf, turnOf};
-
-// A line is a part of its piece.
-fn line_in(piece: &[u8], from: usize, to: usize) -> &[u8]
-    ensures { λ r. ⌜ now r ≡ partOf (now (piece .entry)) from to ⌝ }
-{
-    let e = least(to, piece.len());
-    let a = least(from, e);
-    &piece[a..e]
-}
+ghost use Rattle.next_lines.specs.Found.{partOf};
+ghost use Rattle.piece_lines.specs.Turns.{turnOf};
 
 // The turn's line.
 pub(crate) fn line_of(turn: Turn, piece: &[u8]) -> &[u8]

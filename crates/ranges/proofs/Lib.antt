@@ -1,4 +1,3 @@
 pub mod Spans
-pub mod Given
 pub mod Walks
 pub mod Zero

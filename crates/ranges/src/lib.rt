@@ -1,12 +1,10 @@
-// 1 on the fields of a record: whether each number is within its field's range.
+// 1 on the dates and tallies of a record: whether each number is within its field's range.
 mod by_year; // the numbers by year
 mod last_dates; // the last date or year of each tag
-mod site_range; // what S gave
 mod year_range; // one number of a year, and one last date
 
 pub use by_year::tallies_fit;
 pub use last_dates::lasts_fit;
-pub use site_range::site_fits;
 
 // The last date of C, X, D, P as 366 times the year and the date place, the last year of B, R; 0 for none.
 pub struct Lasts {

@@ -13,12 +13,12 @@ use Rattle.meaning.specs.Blocks.{World}
 use Rattle.meaning.specs.Record.{Rec}
 use Rattle.meaning.specs.Calls.{Out, out, lineOf, closeOf}
 use Rattle.pieces.specs.Run.{runOf, isAnswered, shut, lastLine, ended}
-use Rattle.ending.specs.declared.report.Year.{Year}
-use Rattle.ending.specs.Rows.{yearsShown}
+use Rattle.ended.specs.declared.file.Year.{Year}
+use Rattle.ended.specs.Rows.{yearsShown}
 use Rattle.answers.specs.declared.Answer.{Answer}
 use Rattle.answers.specs.declared.Answer.the-variants.{Took, Refused, Reports}
 use Rattle.answers.specs.Views.{answerView}
-use Rattle.ending.specs.Ends.{hands, noYears, answerShown, yearsBeside, handed}
+use Rattle.ended.specs.Ends.{hands, noYears, answerShown, yearsBeside, handed}
 
 -- ---- with an answer: no years stand beside it
 answer-back : (a : Answer) → answerShown (answerView a) ≡ a

@@ -18,7 +18,7 @@ use Rattle.meaning.specs.Calls.{Answer, took, refused, reports, Out, leaves, op
 use Rattle.demands.specs.CallLists.{sheetOfAnswer}
 use Rattle.pieces.specs.Run.{Run, runOf, isAnswered, started, given, longer, fedByte, fed, fedAll, shut, lastLine, ended, ranOver, textGiven}
 use Rattle.pieces.proofs.Pieces.{pieces-text}
-use Rattle.ending.specs.Ends.{answerShown, yearsBeside, handed}
+use Rattle.ended.specs.Ends.{answerShown, yearsBeside, handed}
 use Rattle.shown.specs.Shown.{sheetText}
 use Rattle.shown.proofs.Years.{Printable, rows-shown, report-printable}
 

@@ -2,7 +2,7 @@
 use mathlib.Core.List.{List}
 use Rattle.readings.specs.declared.Reading.{Reading}
 use Rattle.answers.specs.declared.Answer.{Answer}
-use Rattle.ending.specs.Ends.{noYears}
+use Rattle.ended.specs.Ends.{noYears}
 use Rattle.site.specs.declared.Record.{Record}
 use Rattle.site.specs.declared.Closed.{Closed}
 

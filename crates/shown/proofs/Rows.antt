@@ -14,7 +14,7 @@ use Rattle.digits.proofs.Written.{written-fits, take-written}
 use Rattle.meaning.specs.Text.{tabbed, levelText, yearText}
 use Rattle.shown.specs.Put.{Put}
 use Rattle.shown.proofs.Chains.{tabbed-length}
-use Rattle.ending.specs.declared.report.Year.{Year}
+use Rattle.ended.specs.declared.file.Year.{Year}
 use Rattle.shown.specs.Shown.{rowText, rowsText, Holds}
 
 -- ---- nothing put

@@ -13,8 +13,8 @@ use Rattle.calendar.proofs.Laws.{history-bounds, history-short, no-history}
 use Rattle.meaning.specs.Filing.{Filing, historyOf, yearsIn, historyList}
 use Rattle.meaning.specs.Text.{yearLine}
 use Rattle.meaning.specs.Level.{YearReport, yearReport, Report, reportOf}
-use Rattle.ending.specs.declared.report.Year.{Year}
-use Rattle.ending.specs.Rows.{noYear, yearShown, yearsShown}
+use Rattle.ended.specs.declared.file.Year.{Year}
+use Rattle.ended.specs.Rows.{noYear, yearShown, yearsShown}
 use Rattle.shown.specs.Shown.{rowText, rowsText}
 use Rattle.shown.proofs.Rows.{row-none, row-some}
 

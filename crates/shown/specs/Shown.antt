@@ -7,7 +7,7 @@ use lib.Dec.{eqb}
 use lib.ListN.{length, take}
 use Rattle.lists.specs.Lists.{flat}
 use Rattle.meaning.specs.Text.{levelText, yearText, refusalLine}
-use Rattle.ending.specs.declared.report.Year.{Year}
+use Rattle.ended.specs.declared.file.Year.{Year}
 use Rattle.answers.specs.declared.Answer.{Answer}
 use Rattle.answers.specs.declared.Answer.the-variants.{Took, Refused, Reports}
 use Rattle.shown.specs.declared.Printed.{Printed}

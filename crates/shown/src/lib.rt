@@ -6,7 +6,7 @@ use crate::refusal_line::put_refusal;
 use crate::report_lines::put_level;
 use crate::report_lines::put_year;
 use answers::Answer;
-use ending::Year;
+use ended::Year;
 ghost use Prim.Native.Nat.{_+_, _≤_};
 ghost use lib.ListN.{length};
 ghost use Rattle.shown.specs.Put.{Put};

@@ -6,7 +6,7 @@ use Rattle.meaning.specs.Blocks.{World}
 use Rattle.meaning.specs.Record.{Rec, freshRec}
 use Rattle.meaning.specs.Calls.{Out, out, took, leaves}
 use Rattle.site.specs.declared.Record.{Record}
-use Rattle.ending.specs.Ends.{Handed, hands}
+use Rattle.ended.specs.Ends.{Handed, hands}
 use Rattle.site.specs.declared.Opened.{Opened}
 use Rattle.site.specs.declared.Closed.{Closed}
 

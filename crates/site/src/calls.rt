@@ -16,7 +16,7 @@ ghost use mathlib.Core.Path.{_≡_};
 ghost use Rattle.meaning.specs.Calls.{openingOf, lineOf, closeOf};
 ghost use Rattle.readings.specs.Readings.{seen};
 ghost use Rattle.readings.specs.Columns.{world};
-ghost use Rattle.ending.specs.Ends.{handed};
+ghost use Rattle.ended.specs.Ends.{handed};
 ghost use Rattle.site.specs.Views.{view, handsBack, closesBack};
 
 impl Record {

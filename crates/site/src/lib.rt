@@ -10,7 +10,7 @@ mod packing; // what a call hands back
 mod whole; // the work of a line and of the close
 
 use answers::Answer;
-use ending::Year;
+use ended::Year;
 use steps::Progress;
 
 pub struct Record {

@@ -1,6 +1,6 @@
 // The work of a line and of the close, on a whole record.
 use crate::Record;
-use ending::Ended;
+use ended::Ended;
 use ending::close_blocks;
 use hearing::Heard;
 use hearing::hear_line;
@@ -12,7 +12,7 @@ ghost use Rattle.readings.specs.Readings.{seen};
 ghost use Rattle.readings.specs.Columns.{world};
 ghost use Rattle.readings.specs.Lent.{EachLent, EachColumns};
 ghost use Rattle.hearing.specs.Heard.{hearsBack};
-ghost use Rattle.ending.specs.Ends.{endsBack, handed};
+ghost use Rattle.ended.specs.Ends.{endsBack, handed};
 ghost use Rattle.site.specs.Views.{view};
 
 pub(crate) fn hear(

@@ -1,6 +1,4 @@
 // The refusals 4 to 12 of C and P: a winter date of a history year, and 20 values, handed out as their codes whatever the answer.
-use crate::outside::points_outside;
-use crate::outside::profiles_outside;
 use date_keys::places::key_of;
 use date_keys::places::lacks_date;
 use date_keys::places::winter_at;
@@ -13,6 +11,8 @@ use judge::is_late;
 use judge::is_reached;
 use spans::history;
 use spans::is_among;
+use value_ranges::points_outside;
+use value_ranges::profiles_outside;
 use values::read_points;
 use values::read_profiles;
 ghost use mathlib.Core.Path.{_≡_};

@@ -5,7 +5,7 @@ use Prim.Native.Nat.{_+_, _-_, _*_, _≤_}
 use lib.ListN.{length, take}
 use Rattle.shown.specs.Put.{Put}
 use Rattle.shown.proofs.Chains.{put-length, put-then}
-use Rattle.ending.specs.Rows.{noYear}
+use Rattle.ended.specs.Rows.{noYear}
 use Rattle.shown.specs.Shown.{rowsText}
 use Rattle.shown.proofs.Rows.{put-none, rows-none, rows-next, rows-all}
 use Rattle.shown.proofs.put_rows.Statement.{statement}

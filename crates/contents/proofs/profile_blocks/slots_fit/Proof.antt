@@ -9,7 +9,7 @@ use lib.ListN.{length, take, drop}
 use Rattle.lists.specs.Lists.{all, allAt}
 use Rattle.lists.proofs.AllAt.{allAt-end, stops, goes}
 use Rattle.meaning.specs.Record.{slotsFit}
-use Rattle.contents.specs.Winter.{slotFits}
+use Rattle.day_contents.specs.Slots.{slotFits}
 use Rattle.contents.proofs.Days.{slotAt, slots-all, day-step, dated-slots}
 use Rattle.contents.proofs.profile_blocks.slots_fit.Statement.{statement}
 use Rattle.contents.proofs.profile_blocks.slots_fit.Tie as tie

@@ -1,6 +1,6 @@
 use mathlib.Core.Path.{_∙_}
 use borrow.Author.Needs.{needs}
-use Rattle.ranges.specs.SiteRanges.{siteStands}
+use Rattle.site_ranges.specs.SiteRanges.{siteStands}
 use Rattle.meaning.specs.Record.{recFits, isTaken, historyOfRec, historyOfSite}
 use Rattle.steps.specs.Views.{recOf}
 use Rattle.early.proofs.Gave.{al-given, filiere-given}

@@ -5,7 +5,8 @@ use native.Mathlib.Omega.{arith}
 use lib.ListN.{getD}
 use Rattle.marks.proofs.Ten.{none-yet, one-more, at-end}
 use Rattle.marks.specs.Marks.{byHistory}
-use Rattle.ending.specs.Rows.{noYear, rowIn, rowsIn}
+use Rattle.ended.specs.Rows.{noYear}
+use Rattle.ending.specs.Rows.{rowIn, rowsIn}
 use Rattle.ending.proofs.report.rows.Statement.{statement}
 use Rattle.ending.proofs.report.rows.Tie as tie
 

@@ -44,7 +44,7 @@ use denote.Struct.Laws as LL
 use Rattle.readings.specs.Readings.{seen}
 use Rattle.readings.specs.Columns.{world}
 use Rattle.meaning.specs.Calls.{closeOf}
-use Rattle.ending.specs.Ends.{handed}
+use Rattle.ended.specs.Ends.{handed}
 use Rattle.site.specs.Views.{view, closesBack}
 use Rattle.reading_list.proofs.Lends.{Lent-shared, lends-shared, gives-back-shared}
 use Rattle.site.specs.declared.Record.{Record}

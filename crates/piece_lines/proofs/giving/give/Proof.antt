@@ -42,7 +42,8 @@ use Rattle.meaning.specs.Calls.{lineOf}
 use Rattle.readings.specs.Readings.{seen}
 use Rattle.readings.specs.Columns.{world}
 use Rattle.site.specs.Views.{view, handsBack}
-use Rattle.piece_lines.specs.Turns.{partOf, turnOf}
+use Rattle.next_lines.specs.Found.{partOf}
+use Rattle.piece_lines.specs.Turns.{turnOf}
 use Rattle.piece_lines.proofs.Given.{given-by}
 use Rattle.piece_lines.specs.declared.Turn.{Turn}
 use Rattle.site.specs.declared.Record.{Record}

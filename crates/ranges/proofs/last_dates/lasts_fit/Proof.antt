@@ -1,7 +1,7 @@
-use mathlib.Core.Path.{_∙_}
+use mathlib.Core.Path.{ap₂, _∙_}
+use mathlib.Core.Bool.{_&&_}
 use borrow.Author.Needs.{needs}
 use Rattle.meaning.specs.Record.{lastsFit}
-use Rattle.ranges.proofs.Given.{and-same}
 use Rattle.ranges.proofs.last_dates.lasts_fit.Statement.{statement}
 use Rattle.ranges.proofs.last_dates.lasts_fit.Tie as tie
 
@@ -54,11 +54,11 @@ returns c =
     let b10 = b8 .before .before in
     let b11 = b10 .before in
     rw (← b11 .axis .ensures, ← b11 .before .history .ensures)
-    (c .both5 .ensures ∙ and-same (c .before .date-fits4 .ensures)
-    (b2 .both4 .ensures ∙ and-same (b2 .before .date-fits3 .ensures)
-    (b4 .both3 .ensures ∙ and-same (b4 .before .date-fits2 .ensures)
-    (b6 .both2 .ensures ∙ and-same (b6 .before .date-fits .ensures)
-    (b8 .both .ensures ∙ and-same (b10 .year-fits .ensures) (b8 .before .year-fits2 .ensures))))))
+    (c .both5 .ensures ∙ ap₂ _&&_ (c .before .date-fits4 .ensures)
+    (b2 .both4 .ensures ∙ ap₂ _&&_ (b2 .before .date-fits3 .ensures)
+    (b4 .both3 .ensures ∙ ap₂ _&&_ (b4 .before .date-fits2 .ensures)
+    (b6 .both2 .ensures ∙ ap₂ _&&_ (b6 .before .date-fits .ensures)
+    (b8 .both .ensures ∙ ap₂ _&&_ (b10 .year-fits .ensures) (b8 .before .year-fits2 .ensures))))))
 
 pub lasts-fit-spec : {M : Type 1} → statement M
 lasts-fit-spec =

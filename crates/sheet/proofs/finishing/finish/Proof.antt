@@ -5,7 +5,7 @@ use borrow.Author.Needs.{needs}
 use borrow.Author.Tests.{not-true, not-false}
 use Rattle.readings.specs.Readings.{seen}
 use Rattle.readings.specs.Columns.{world}
-use Rattle.ending.specs.Ends.{handed}
+use Rattle.ended.specs.Ends.{handed}
 use Rattle.site.specs.Views.{handsBack}
 use Rattle.runs.specs.Views.{openedOf}
 use Rattle.sheet.proofs.Ends.{ended-now, ended-last}

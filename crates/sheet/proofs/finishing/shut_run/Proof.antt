@@ -2,7 +2,7 @@ use mathlib.Core.Path.{ap, sym, _∙_}
 use borrow.Author.Needs.{needs}
 use Rattle.readings.specs.Readings.{seen}
 use Rattle.readings.specs.Columns.{world}
-use Rattle.ending.specs.Ends.{handed}
+use Rattle.ended.specs.Ends.{handed}
 use Rattle.site.specs.declared.Closed.{Closed}
 use Rattle.site.specs.Views.{view, handsBack, closesBack}
 use Rattle.sheet.proofs.Ends.{back-answered, shut-open}

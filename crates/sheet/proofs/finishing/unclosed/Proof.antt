@@ -1,5 +1,5 @@
 use mathlib.Core.Path.{refl}
-use Rattle.ending.specs.Ends.{noYears}
+use Rattle.ended.specs.Ends.{noYears}
 use Rattle.sheet.proofs.finishing.unclosed.Statement.{statement}
 use Rattle.sheet.proofs.finishing.unclosed.Tie as tie
 

@@ -44,17 +44,17 @@ use Rattle.readings.specs.Readings.{seen, columnsOf}
 use Rattle.readings.specs.Columns.{world}
 use Rattle.readings.specs.Lent.{EachColumns}
 use Rattle.meaning.specs.Blocks.{World}
-use Rattle.ending.specs.Ends.{endsBack, handed}
+use Rattle.ended.specs.Ends.{endsBack, handed}
 use Rattle.site.specs.Views.{view, closesBack}
 use Rattle.site.specs.declared.Record.{Record}
-use Rattle.ending.specs.declared.ended.Ended.{Ended}
+use Rattle.ended.specs.declared.told.Ended.{Ended}
 use Rattle.site.specs.declared.Closed.{Closed}
 use Rattle.readings.specs.declared.Columns.{Columns}
 use Rattle.readings.specs.declared.Reading.{Reading}
 use Rattle.site.proofs.Record as T
 use Rattle.site.proofs.Record.Laws as T′
-use Rattle.ending.proofs.ended.Ended as S
-use Rattle.ending.proofs.ended.Ended.Laws as S′
+use Rattle.ended.proofs.told.Ended as S
+use Rattle.ended.proofs.told.Ended.Laws as S′
 use Rattle.site.proofs.Closed as O
 use Rattle.site.proofs.Closed.Laws as O′
 use Rattle.readings.proofs.Columns as B

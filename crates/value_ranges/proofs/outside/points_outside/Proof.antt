@@ -1,0 +1,15 @@
+use borrow.Author.Needs.{needs}
+use Rattle.values.specs.Codes.{isPointOutside}
+use Rattle.values.specs.Rows.{isAbove}
+use Rattle.value_ranges.proofs.outside.points_outside.Statement.{statement}
+use Rattle.value_ranges.proofs.outside.points_outside.Tie as tie
+
+some-above-requires : tie.Need-some-above-requires
+some-above-requires c κs = search needs
+
+returns : tie.Need-returns
+unfolding isAbove isPointOutside
+returns c = c .some-above .ensures
+
+pub points-outside-spec : {M : Type 1} → statement M
+points-outside-spec = tie.close (tie.spec some-above-requires returns)
