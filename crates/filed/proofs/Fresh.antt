@@ -5,10 +5,9 @@ use Prim.Native.Nat.{ℕ}
 use lib.Dec.{T}
 use lib.ListN.{length, length-replicate}
 use Rattle.meaning.specs.Blocks.{sizesFit}
-use Rattle.readings.specs.Readings.{seen, fresh}
+use Rattle.readings.specs.Readings.{seen, fresh, freshReadings}
 use Rattle.readings.specs.Columns.{world}
 use Rattle.readings.proofs.Laws.{seen-length}
-use Rattle.runs.specs.Start.{freshReadings}
 
 fresh-length : length freshReadings ≡ 600
 unfolding freshReadings

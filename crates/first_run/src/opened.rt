@@ -1,16 +1,15 @@
 // A run at its start, on a record that is opened.
 use own_calls::open_own;
+use readings::fresh_readings;
 use runs::Fed;
-use runs::fresh_readings;
 use runs::start;
 use site::Record;
 ghost use mathlib.Core.Path.{_≡_};
 ghost use Rattle.meaning.specs.Record.{neverOpened};
 ghost use Rattle.pieces.specs.Run.{started};
-ghost use Rattle.readings.specs.Readings.{seen};
+ghost use Rattle.readings.specs.Readings.{seen, freshReadings};
 ghost use Rattle.readings.specs.Columns.{world};
 ghost use Rattle.runs.specs.Views.{runView};
-ghost use Rattle.runs.specs.Start.{freshReadings};
 
 pub fn begin(
     near: &mut [u32],

@@ -68,3 +68,7 @@ columnsOf rs = record {
   indexes = countsOf (firstReadings rs);
   kinds = lettersOf (firstReadings rs);
 }
+
+-- the readings before an opening
+unfoldable pub freshReadings : List Reading
+freshReadings = replicate 600 fresh

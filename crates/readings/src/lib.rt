@@ -1,7 +1,7 @@
 // A reading: its position on the axis, its count in Wh and its kind. `reading_list` has the lent list of them.
 ghost use mathlib.Core.Path.{_≡_};
 ghost use Rattle.meaning.specs.Blocks.{letterOfKind};
-ghost use Rattle.readings.specs.Readings.{kindView, kindLettered};
+ghost use Rattle.readings.specs.Readings.{kindView, kindLettered, freshReadings};
 
 // R real, C corrected, E estimated.
 pub enum Kind {
@@ -42,4 +42,16 @@ pub fn kind_of(letter: u8) -> Kind
         b'C' => Kind::C,
         _ => Kind::E,
     }
+}
+
+// As many as a file can have, before the opening.
+pub fn fresh_readings() -> [Reading; 600]
+    ensures { λ r. ⌜ r ≡ freshReadings ⌝ }
+{
+    let fresh = Reading {
+        position: 0,
+        count: 0,
+        kind: Kind::E,
+    };
+    [fresh; 600]
 }

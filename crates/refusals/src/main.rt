@@ -10,7 +10,7 @@ use own_calls::Kept;
 use own_calls::line_own;
 use own_calls::open_own;
 use readings::Reading;
-use runs::fresh_readings;
+use readings::fresh_readings;
 use site::Record;
 
 const MISSING: u32 = 4294967295;

@@ -1,6 +1,5 @@
 // A run over the input: its record, its answer and the line begun, with the readings that it keeps.
 use answers::Answer;
-use readings::Kind;
 use readings::Reading;
 use site::Opened;
 use site::Record;
@@ -9,7 +8,6 @@ ghost use mathlib.Core.List.{[]};
 ghost use Rattle.meaning.specs.Blocks.{World};
 ghost use Rattle.pieces.specs.Run.{runOf};
 ghost use Rattle.site.specs.Views.{handsBack};
-ghost use Rattle.runs.specs.Start.{freshReadings};
 ghost use Rattle.runs.specs.Views.{openedOf, runView};
 
 pub struct Run {
@@ -46,16 +44,4 @@ pub fn opened_of(run: Run) -> Opened
     let record = run.record;
     let answer = run.answer;
     Opened { record, answer }
-}
-
-// Before the opening.
-pub fn fresh_readings() -> [Reading; 600]
-    ensures { λ r. ⌜ r ≡ freshReadings ⌝ }
-{
-    let fresh = Reading {
-        position: 0,
-        count: 0,
-        kind: Kind::E,
-    };
-    [fresh; 600]
 }

@@ -9,7 +9,7 @@ use Rattle.first_run.proofs.opened.begin.Reads as reads
 use Rattle.first_run.proofs.opened.begin.Lts as lts
 use Rattle.runs.proofs.start.Reads as start-reads
 use Rattle.own_calls.proofs.open_own.Reads as open-own-reads
-use Rattle.runs.proofs.fresh_readings.Reads as fresh-readings-reads
+use Rattle.readings.proofs.fresh_readings.Reads as fresh-readings-reads
 use Rattle.site.proofs.Record.never_opened.Reads as never-opened-reads
 
 never-opened-requires : tie.Need-never-opened-requires

@@ -1,7 +1,7 @@
 use mathlib.Core.Path.{refl}
-use Rattle.runs.specs.Start.{freshReadings}
-use Rattle.runs.proofs.fresh_readings.Statement.{statement}
-use Rattle.runs.proofs.fresh_readings.Tie as tie
+use Rattle.readings.specs.Readings.{freshReadings}
+use Rattle.readings.proofs.fresh_readings.Statement.{statement}
+use Rattle.readings.proofs.fresh_readings.Tie as tie
 
 returns : tie.Need-returns
 unfolding freshReadings
