@@ -6,14 +6,14 @@ D=dict(
   params=[('self','value','T'),('near','shr','u32'),('far','shr','u32'),('slots','shr','u16'),('daily','shr','u32'),('readings','shr','R'),('curve','mut','u64')],
   types=dict(
     T=dict(name='Record',mod=OWN+'Record',decl='Record',**{'decl-mod':SP+'declared.Record'}),
-    S=dict(name='Ended',mod='Rattle.ended.proofs.told.Ended',decl='Ended',**{'decl-mod':'Rattle.ended.specs.declared.told.Ended'}),
+    S=dict(name='Ended',mod='Rattle.close.proofs.outcome.told.Ended',decl='Ended',**{'decl-mod':'Rattle.close.specs.declared.outcome.told.Ended'}),
     O=dict(name='Closed',mod=OWN+'Closed',decl='Closed',**{'decl-mod':SP+'declared.Closed'}),
     B=dict(name='Columns',mod='Rattle.readings.proofs.Columns',decl='Columns',**{'decl-mod':'Rattle.readings.specs.declared.Columns'}),
     R=dict(name='Reading',mod='Rattle.readings.proofs.Reading',decl='Reading',**{'decl-mod':'Rattle.readings.specs.declared.Reading'}),
   ),
-  imports=['use Rattle.meaning.specs.Calls.{closeOf}','use Rattle.readings.specs.Readings.{seen, columnsOf}','use Rattle.readings.specs.Columns.{world}','use Rattle.readings.specs.Lent.{EachColumns}','use Rattle.meaning.specs.Blocks.{World}','use Rattle.ended.specs.Ends.{endsBack, handed}','use Rattle.site.specs.Views.{view, closesBack}'],
+  imports=['use Rattle.meaning.specs.Calls.{closeOf}','use Rattle.readings.specs.Readings.{seen, columnsOf}','use Rattle.readings.specs.Columns.{world}','use Rattle.readings.specs.Lent.{EachColumns}','use Rattle.meaning.specs.Blocks.{World}','use Rattle.close.specs.Ends.{endsBack, handed}','use Rattle.site.specs.Views.{view, closesBack}'],
   calls=[
-    dict(fn='columns_of',al='columns-of',Name='ColumnsOf',n='₁',mod='Rattle.reading_list.proofs.columns_of',key='#reading-list·columns-of',
+    dict(fn='columns_of',al='columns-of',Name='ColumnsOf',n='₁',mod='Rattle.readings.proofs.columns_of',key='#readings·columns-of',
       args=[('ref','readings')],res='B',fact='{r} ≡ columnsOf (readings .now)'),
     dict(fn='shut',al='shut',Name='Shut',n='',mod=OWN+'whole.shut',key='#site·whole·shut',
       binds=[('k','Columns'),('v','Val')],proofs=[('k-is','Is B.the-row k (v ∷ [])')],

@@ -4,7 +4,7 @@ D=dict(
   crate='own_calls', fn='closes::close_own', cwd='.', own=dict(param='readings',borrow='shr'),
   params=[('rec','value','T'),('near','shr','u32'),('far','shr','u32'),('slots','shr','u16'),('daily','shr','u32'),('readings','value','AR'),('curve','mut','u64')],
   types=dict(T=T,R=R,AR=AR,K=struct('Closed',SITE,'Rattle.site.specs.declared.')),
-  imports=IMPORTS+['use Rattle.meaning.specs.Calls.{closeOf}','use Rattle.ended.specs.Ends.{handed}','use Rattle.site.specs.Views.{view, closesBack}','use Rattle.reading_list.proofs.Lends.{Lent-shared, lends-shared, gives-back-shared}'],
+  imports=IMPORTS+['use Rattle.meaning.specs.Calls.{closeOf}','use Rattle.close.specs.Ends.{handed}','use Rattle.site.specs.Views.{view, closesBack}','use Rattle.readings.proofs.Lends.{Lent-shared, lends-shared, gives-back-shared}'],
   calls=[
     dict(fn='Record::close',al='closes',Name='Close',n='',mod=SITE+'Record.close',key='#site·Record·close',
       binds=[('l₈','ℕ'),('ν','ℕ'),('γ','GName')],

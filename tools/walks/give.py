@@ -14,7 +14,7 @@ D=dict(
     O=dict(name='Opened',mod='Rattle.site.proofs.Opened',decl='Opened',**{'decl-mod':'Rattle.site.specs.declared.Opened'}),
     R=dict(name='Reading',mod='Rattle.readings.proofs.Reading',decl='Reading',**{'decl-mod':'Rattle.readings.specs.declared.Reading'}),
   ),
-  imports=['use Rattle.meaning.specs.Calls.{lineOf}','use Rattle.readings.specs.Readings.{seen}','use Rattle.readings.specs.Columns.{world}','use Rattle.site.specs.Views.{view, handsBack}','use Rattle.next_lines.specs.Found.{partOf}','use Rattle.piece_lines.specs.Turns.{turnOf}','use Rattle.piece_lines.proofs.Given.{given-by}'],
+  imports=['use Rattle.meaning.specs.Calls.{lineOf}','use Rattle.readings.specs.Readings.{seen}','use Rattle.readings.specs.Columns.{world}','use Rattle.site.specs.Views.{view, handsBack}','use Rattle.pieces.specs.Found.{partOf}','use Rattle.piece_lines.specs.Turns.{turnOf}','use Rattle.piece_lines.proofs.Given.{given-by}'],
   calls=[
     dict(fn='line_of',al='line-of',Name='LineOf',n='₁',mod=OWN+'lines.line_of',key='#piece-lines·lines·line-of',
       args=[('plain','U','turn','turn-is'),('ref','piece')],

@@ -8,7 +8,7 @@ def world(p,rs): return '(world %s %s %s %s (seen %s) %s)'%(p('near'),p('far'),p
 now=lambda z:'(%s .now)'%z
 IMPORTS=['use Rattle.readings.specs.Readings.{seen}','use Rattle.readings.specs.Columns.{world}']
 ISOWN='Is (Array R.the-row 600) readings′ (array-vals (LL.vals R.the-type R′.the-laws) readings′)'
-LENDS='use Rattle.reading_list.proofs.Lends.{Lent, lends, gives-back}'
+LENDS='use Rattle.readings.proofs.Lends.{Lent, lends, gives-back}'
 def at_exit(t,res='r'):
     for z in BLOCKS: t=t.replace('{%s}'%z,z+'′')
     return t.replace('{r}',res).replace('{own}','readings′')

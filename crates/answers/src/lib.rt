@@ -1,4 +1,12 @@
 // What a call answers.
+mod first_stops; // the stops that come before any other, by number: 1 on the sizes of the lent blocks, and 1 before 13 before 14
+mod record_stops; // 1 on the record's fields, and the stops of a line that come before any other: 1, then 13
+
+pub use first_stops::ended_stop;
+pub use first_stops::sizes_fit;
+pub use record_stops::given;
+pub use record_stops::line_stop;
+pub use record_stops::record_fits;
 ghost use mathlib.Core.Path.{_≡_};
 ghost use Rattle.answers.specs.Views.{answerOf};
 

@@ -1,5 +1,4 @@
 // The values of one line, each stored at the place of its date.
-pub use point_rows::stores::put_points;
 ghost use mathlib.Core.Path.{_≡_};
 ghost use mathlib.Core.List.{map};
 ghost use Prim.Native.Nat.{_+_, _≤_, _<_};

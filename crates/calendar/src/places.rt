@@ -1,37 +1,34 @@
 // The date places 0 to 365 of a year and its winter places 0 to 151: 29 February has one in every year.
 use crate::Day;
 use crate::Place;
-pub use day_rows::has_date;
-pub use day_rows::has_winter_date;
-use days::dates;
 ghost use mathlib.Core.Path.{_≡_};
 ghost use Rattle.calendar.specs.Answers.{datePlaceOf, winterPlaceOf, winterDatePlace, dayAt, winterDayAt};
 
 pub fn date_place(month: u64, day: u64) -> Place
     ensures { λ r. ⌜ r ≡ datePlaceOf month day ⌝ }
 {
-    if !dates::is_day(month, day) {
+    if !crate::dates::is_day(month, day) {
         return Place::Nowhere;
     }
     let days = (day - 1) as usize;
-    Place::At(day_rows::start(month) + days)
+    Place::At(crate::rows::start(month) + days)
 }
 
 // Before November and December come the 214 days of April to October, which are no winter days.
 pub fn winter_place(month: u64, day: u64) -> Place
     ensures { λ r. ⌜ r ≡ winterPlaceOf month day ⌝ }
 {
-    if !dates::is_day(month, day) {
+    if !crate::dates::is_day(month, day) {
         return Place::Nowhere;
     }
-    if !dates::is_winter(month) {
+    if !crate::dates::is_winter(month) {
         return Place::Nowhere;
     }
     let days = (day - 1) as usize;
     if month <= 3 {
-        return Place::At(day_rows::start(month) + days);
+        return Place::At(crate::rows::start(month) + days);
     }
-    Place::At(day_rows::start(month) - 214 + days)
+    Place::At(crate::rows::start(month) - 214 + days)
 }
 
 pub fn date_of_winter(place: usize) -> Place
@@ -52,8 +49,8 @@ pub fn day_at(place: usize) -> Day
     if 366 <= place {
         return Day::Nowhere;
     }
-    let month = day_rows::month_at(place);
-    let day = (place - day_rows::start(month)) as u64 + 1;
+    let month = crate::rows::month_at(place);
+    let day = (place - crate::rows::start(month)) as u64 + 1;
     Day::Of { month, day }
 }
 

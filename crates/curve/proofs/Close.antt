@@ -21,12 +21,12 @@ use Rattle.meaning.specs.Level.{missingEntry, entryOf, pointsIn, presentIn, cou
 use Rattle.meaning.specs.Closing.{tooHigh, lacks}
 use Rattle.meaning.specs.Blocks.{World}
 use Rattle.meaning.specs.Record.{Tallies, filingHeld}
-use Rattle.own_points.specs.declared.Basis.{Basis}
-use Rattle.years.specs.Years.{casFrom}
-use Rattle.tallies.specs.Tallies.{tally, pointIn, exceedsIn, tallyOf, entryIn}
-use Rattle.places.specs.Places.{Held, held}
+use Rattle.points.specs.declared.own.Basis.{Basis}
+use Rattle.history.specs.Years.{casFrom}
+use Rattle.curve.specs.Tallies.{tally, pointIn, exceedsIn, tallyOf, entryIn}
+use Rattle.curve.specs.YearPlaces.{Held, held}
 use Rattle.curve.specs.Places.{placesOf, allPlacesIn, basisOf, presentYears, fillingOf, curveEntryIn, curveIn, nccOf}
-use Rattle.tallies.proofs.Tallying.{any-join, map-join}
+use Rattle.curve.proofs.Tallying.{any-join, map-join}
 use Rattle.curve.proofs.Filings.{map-each, map-tab, each-to, Means, few, year-is, all-is}
 
 -- ---- where 18 does not hold, every point is taken

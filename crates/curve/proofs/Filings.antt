@@ -23,15 +23,15 @@ use Rattle.meaning.specs.Cases.{Case, caseM, case1, case2, case3, case4, caseP,
 use Rattle.meaning.specs.Points.{Origin, byProfile, Donor, own, Place, placeOf, intervalAt, profiledIn, profiledAt, readBy, readAt, donorOf, curveDonor, indexDonor, curveDonors, indexDonors, ownOf, historyCas, defaultAt, sourceBy, sourceAt, appliedRate, yearPlaces, allPlaces}
 use Rattle.meaning.specs.Blocks.{World, slotsStart}
 use Rattle.meaning.specs.Record.{Tallies, historyOfSite, profileHeld, byYear, rateOfCode, filingHeld}
-use Rattle.curves.proofs.Filings.{point-is}
-use Rattle.own_points.specs.declared.Basis.{Basis}
-use Rattle.cases.specs.Cases.{isSet, meantCase, caseOfCode}
-use Rattle.own_points.specs.Given.{codeIn, readIn, profileIn, profiledOn}
-use Rattle.donors.specs.Given.{donorBy, curveGiven, indexGiven, donorsAmong}
-use Rattle.years.specs.Years.{positionIn, onDay, bit, giversOn, casFrom, casSum}
+use Rattle.validity.proofs.Filings.{point-is}
+use Rattle.points.specs.declared.own.Basis.{Basis}
+use Rattle.history.specs.Cases.{isSet, meantCase, caseOfCode}
+use Rattle.points.specs.OwnGiven.{codeIn, readIn, profileIn, profiledOn}
+use Rattle.points.specs.DonorsGiven.{donorBy, curveGiven, indexGiven, donorsAmong}
+use Rattle.history.specs.Years.{positionIn, onDay, bit, giversOn, casFrom, casSum}
 use Rattle.points.specs.Sources.{Day, curveDonorsIn, indexDonorsIn, defaultIn, sourceIn}
-use Rattle.tallies.specs.Tallies.{place}
-use Rattle.places.specs.Places.{Held, held, dayIn, placesOn, placesIn}
+use Rattle.curve.specs.Tallies.{place}
+use Rattle.curve.specs.YearPlaces.{Held, held, dayIn, placesOn, placesIn}
 use Rattle.curve.specs.Places.{placesOf, allPlacesIn, basisOf}
 
 -- ---- lists that agree at each element

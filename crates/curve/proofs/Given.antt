@@ -18,9 +18,9 @@ use Rattle.meaning.specs.Validity.{curveValid, indexValid}
 use Rattle.meaning.specs.Cases.{Case, caseM, case1, case2, case3, case4, caseP, case5, case6, Mark, mark, caseBy, markOf, marksOf, caseOf}
 use Rattle.meaning.specs.Points.{positionAt}
 use Rattle.meaning.specs.Blocks.{missingPoint, rowSize, isNear, nearStart, farStart}
-use Rattle.curves.specs.Rows.{holdsYear, part, rowOf}
-use Rattle.cases.specs.Cases.{isSet, isCurve, meterOf, markIn, marksIn, caseIn, caseCodes, caseOfCode, codeOfCase, caseTold, meantCase}
-use Rattle.years.specs.Years.{positionIn}
+use Rattle.validity.specs.Rows.{holdsYear, part, rowOf}
+use Rattle.history.specs.Cases.{isSet, isCurve, meterOf, markIn, marksIn, caseIn, caseCodes, caseOfCode, codeOfCase, caseTold, meantCase}
+use Rattle.history.specs.Years.{positionIn}
 use Rattle.points.specs.Fits.{isPoint, PointsFit}
 use Rattle.curve.proofs.Filings.{map-range}
 

@@ -15,12 +15,12 @@ use Rattle.calendar.specs.Spans.{historyYears}
 use Rattle.calendar.proofs.Laws.{among-words, history-bounds, history-short, history-year}
 use Rattle.note.specs.Coefficients.{caOf, theta}
 use Rattle.note.proofs.Factors.{theta-most}
-use Rattle.note.proofs.History.{ca-not-zero, ca-at-most}
-use Rattle.years.specs.Years.{casFrom, casSum}
+use Rattle.note.proofs.HistoryPeaks.{ca-not-zero, ca-at-most}
+use Rattle.history.specs.Years.{casFrom, casSum}
 use Rattle.points.specs.Fits.{AtMost, CasFit, BasisFits}
-use Rattle.places.specs.Places.{held}
+use Rattle.curve.specs.YearPlaces.{held}
 use Rattle.curve.specs.Places.{basisOf}
-use Rattle.places.specs.Fits.{HeldFits}
+use Rattle.curve.specs.PlaceFits.{HeldFits}
 use Rattle.curve.specs.Fits.{SiteFits, ListsFit}
 
 caAt : ℕ → ℕ → ℕ → ℕ

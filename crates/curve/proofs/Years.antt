@@ -17,14 +17,14 @@ use Rattle.note.proofs.PeakDays.{days-length, most-days}
 use Rattle.meaning.specs.Cases.{Case}
 use Rattle.meaning.specs.Points.{Place}
 use Rattle.meaning.specs.Level.{missingEntry}
-use Rattle.own_points.specs.declared.Basis.{Basis}
-use Rattle.tallies.specs.declared.Tally.{Tally}
-use Rattle.tallies.specs.Tallies.{tally, tallyOf, entryIn, entriesOf, plus}
-use Rattle.places.specs.Places.{Held, dayIn, placesOn, placesIn}
-use Rattle.tallies.specs.Fits.{TallyFits}
-use Rattle.places.specs.Fits.{Entered}
-use Rattle.tallies.proofs.Tallying.{nothing-plus, plus-nothing, tally-on, plus-fits, nothing-fits}
-use Rattle.places.proofs.Walking.{hours-length}
+use Rattle.points.specs.declared.own.Basis.{Basis}
+use Rattle.curve.specs.declared.tallies.Tally.{Tally}
+use Rattle.curve.specs.Tallies.{tally, tallyOf, entryIn, entriesOf, plus}
+use Rattle.curve.specs.YearPlaces.{Held, dayIn, placesOn, placesIn}
+use Rattle.curve.specs.TallyFits.{TallyFits}
+use Rattle.curve.specs.PlaceFits.{Entered}
+use Rattle.curve.proofs.Tallying.{nothing-plus, plus-nothing, tally-on, plus-fits, nothing-fits}
+use Rattle.curve.proofs.Walking.{hours-length}
 
 -- ---- how many places a year has
 flat-length : {A : Type 0} (f : ℕ → List A) (n : ℕ) → ((w : ℕ) → length (f w) ≡ n) → (ws : List ℕ) → length (flat (map f ws)) ≡ n * length ws

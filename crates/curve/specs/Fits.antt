@@ -6,7 +6,7 @@ use lib.Dec.{T}
 use lib.ListN.{length}
 use Rattle.calendar.specs.Spans.{isKnown}
 use Rattle.meaning.specs.Blocks.{slotsSize}
-use Rattle.own_points.specs.declared.Basis.{Basis}
+use Rattle.points.specs.declared.own.Basis.{Basis}
 use Rattle.points.specs.Fits.{AtMost, PointsFit, RatesFit, BasisFits}
 use Rattle.curve.specs.declared.Filling.{Filling}
 use Rattle.curve.specs.Places.{Held, basisOf, fillingOf, curveIn}

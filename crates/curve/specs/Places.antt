@@ -10,13 +10,13 @@ use Rattle.note.specs.Coefficients.{theta, coefficientC}
 use Rattle.rounding.specs.Points.{rounded, level}
 use Rattle.meaning.specs.Points.{Place}
 use Rattle.meaning.specs.Level.{missingEntry}
-use Rattle.own_points.specs.declared.Basis.{Basis}
-use Rattle.cases.specs.Cases.{meantCase, caseOfCode}
-use Rattle.years.specs.Years.{casFrom, casSum}
+use Rattle.points.specs.declared.own.Basis.{Basis}
+use Rattle.history.specs.Cases.{meantCase, caseOfCode}
+use Rattle.history.specs.Years.{casFrom, casSum}
 use Rattle.curve.specs.declared.Filling.{Filling}
-use Rattle.tallies.specs.Tallies.{tallyOf, entryIn}
-use Rattle.places.specs.Places.{placesIn}
-pub use Rattle.places.specs.Places.{Held, held}
+use Rattle.curve.specs.Tallies.{tallyOf, entryIn}
+use Rattle.curve.specs.YearPlaces.{placesIn}
+pub use Rattle.curve.specs.YearPlaces.{Held, held}
 
 -- by the codes of the years' cases and their rates
 unfoldable pub placesOf : Basis → Held → List ℕ → List ℕ → ℕ → List Place

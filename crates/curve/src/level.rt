@@ -9,6 +9,6 @@ pub fn ncc(al: u64, filiere: u64, sum: u64, n: u64) -> u64
     requires { ⌜ (0 < n) × (n ≤ 4400) × (sum ≤ 20_000_000_000_000 * n) ⌝ }
     ensures { λ r. ⌜ r ≡ nccOf al filiere sum n ⌝ }
 {
-    let c = note::coefficients::coefficient(al, filiere);
-    levels::level(c, Power(sum), n)
+    let c = note::coefficient(al, filiere);
+    rounding::level(c, Power(sum), n)
 }

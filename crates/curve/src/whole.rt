@@ -3,16 +3,16 @@ ghost use mathlib.Core.Path.{_≡_};
 ghost use Prim.Native.Nat.{_≤_, _<_};
 ghost use lib.ListN.{replicate};
 ghost use Rattle.meaning.specs.Level.{missingEntry};
-ghost use Rattle.years.specs.Years.{casFrom};
-ghost use Rattle.own_points.specs.Fits.{BasisFits};
+ghost use Rattle.history.specs.Years.{casFrom};
+ghost use Rattle.points.specs.OwnFits.{BasisFits};
 ghost use Rattle.points.specs.Fits.{RatesFit};
-ghost use Rattle.places.specs.Places.{held, heldWith, marks};
-ghost use Rattle.places.specs.Fits.{HeldFits};
+ghost use Rattle.curve.specs.YearPlaces.{held, heldWith, marks};
+ghost use Rattle.curve.specs.PlaceFits.{HeldFits};
 ghost use Rattle.curve.specs.Places.{basisOf};
 ghost use Rattle.curve.specs.Fits.{SiteFits, ListsFit, BasisIs, Filled};
 use crate::Filling;
-use own_points::Basis;
-use places::Marks;
+use crate::places::Marks;
+use points::Basis;
 use points::Year;
 
 // Each year in turn, from a curve whose entries are all missing. A year's points do not stop where one is refusal 18: the curve is then not used.
@@ -33,16 +33,16 @@ fn all_years<'a>(
     ensures { λ r. ⌜ Filled b (heldWith (now (near .entry)) (now (far .entry)) (now (slots .entry)) (now (energies .entry)) (now (totals .entry)) m) (now (codes .entry)) (now (rates .entry)) (now (curve .exit)) r ⌝ }
 {
     let n = b.count as usize;
-    let mut t = tallies::NOTHING;
+    let mut t = crate::tallies::NOTHING;
     let mut present = [0u64; 10];
     let mut k = 0;
     while k < n {
-        let case = cases::case_at(codes[k]);
+        let case = history::case_at(codes[k]);
         let rate = rates[k];
         let y = Year { k, case, rate };
-        let p = places::year_places(b, m, y, near, far, slots, energies, totals, curve);
+        let p = crate::places::year_places(b, m, y, near, far, slots, energies, totals, curve);
         present[k] = p.counted;
-        t = tallies::plus(t, p);
+        t = crate::tallies::plus(t, p);
         k += 1;
     }
     Filling {
@@ -58,16 +58,16 @@ fn basis_of(al: u64, filiere: u64, ps: u64) -> Basis
     requires { ⌜ SiteFits al filiere ps ⌝ }
     ensures { λ r. ⌜ BasisIs al filiere ps r ⌝ }
 {
-    let h = spans::history(al, filiere);
-    let cas = ca_sums::cas_from(h.first, filiere);
+    let h = calendar::history(al, filiere);
+    let cas = history::cas_from(h.first, filiere);
     let n = h.count as usize;
     Basis {
         al,
         first: h.first,
         count: h.count,
         ps,
-        theta: note::coefficients::theta(filiere),
-        cas: ca_sums::cas_sum(&cas, n),
+        theta: note::theta(filiere),
+        cas: history::cas_sum(&cas, n),
     }
 }
 
@@ -81,7 +81,7 @@ fn marks_of(curves: &[u64; 10], indexes: &[u64; 10], first: u64, filiere: u64) -
     Marks {
         curves: c,
         indexes: i,
-        cas: ca_sums::cas_from(first, filiere),
+        cas: history::cas_from(first, filiere),
     }
 }
 

@@ -13,7 +13,7 @@ use Rattle.lists.proofs.Laws.{first-none, is-true}
 use Rattle.calendar.specs.declared.Years.{Years}
 use Rattle.calendar.specs.Spans.{among, isKnown}
 use Rattle.calendar.proofs.Laws.{among-words, history-short}
-use Rattle.note.proofs.History.{known, ca-not-zero, ca-twofold}
+use Rattle.note.proofs.HistoryPeaks.{known, ca-not-zero, ca-twofold}
 use Rattle.meaning.specs.Filing.{Filing, historyOf}
 use Rattle.meaning.specs.Line.{Line}
 use Rattle.meaning.specs.Refusals.{isTooSoon}

@@ -1,11 +1,8 @@
 // Writes each figure of the note that the engine uses: the peak days as dates, CA, theta, C and the lengths of the histories.
 // The file stdout beside this folder is what tools/figures_from_note.py reads from the note's own text.
 use calendar::Day;
-use calendar::places;
 use libc::STDOUT_FILENO;
-use note::coefficients;
-use note::peaks;
-use note::peaks::PeakDay;
+use note::PeakDay;
 
 fn put(text: &[u8]) {
     io::write_all(STDOUT_FILENO, text);
@@ -34,7 +31,7 @@ fn put_two(n: u64) {
 }
 
 fn put_date(year: u64, place: usize) {
-    match places::winter_day_at(place) {
+    match calendar::winter_day_at(place) {
         Day::Of { month, day } => {
             put_two(day);
             put(b"/");
@@ -50,7 +47,7 @@ fn put_date(year: u64, place: usize) {
 
 fn put_peak_day(year: u64, k: usize) {
     put(b"\t");
-    match peaks::peak_day(year, k) {
+    match note::peak_day(year, k) {
         PeakDay::Place(place) => {
             put_date(year, place);
         }
@@ -62,7 +59,7 @@ fn put_peak_day(year: u64, k: usize) {
 
 fn peak_days(year: u64) {
     put_number(year);
-    let count = peaks::peak_count(year);
+    let count = note::peak_count(year);
     for k in 0..count {
         put_peak_day(year, k);
     }
@@ -73,13 +70,13 @@ fn peak_days(year: u64) {
 fn ca_row(year: u64) {
     put(b"CA");
     put_field(year);
-    put_field(coefficients::ca(year, 1));
-    put_field(coefficients::ca(year, 2));
-    put_field(coefficients::ca(year, 4));
-    put_field(coefficients::ca(year, 6));
-    put_field(coefficients::ca(year, 9));
-    put_field(coefficients::ca(year, 10));
-    put_field(coefficients::ca(year, 11));
+    put_field(note::ca(year, 1));
+    put_field(note::ca(year, 2));
+    put_field(note::ca(year, 4));
+    put_field(note::ca(year, 6));
+    put_field(note::ca(year, 9));
+    put_field(note::ca(year, 10));
+    put_field(note::ca(year, 11));
     end_line();
 }
 
@@ -93,10 +90,10 @@ enum Figure {
 
 fn figure_of(what: Figure, filiere: u64) -> u64 {
     match what {
-        Figure::Column => coefficients::column(filiere) as u64,
-        Figure::Theta => coefficients::theta(filiere),
-        Figure::C(al) => coefficients::coefficient(al, filiere),
-        Figure::HistoryLength => spans::history_length(filiere),
+        Figure::Column => note::column(filiere) as u64,
+        Figure::Theta => note::theta(filiere),
+        Figure::C(al) => note::coefficient(al, filiere),
+        Figure::HistoryLength => calendar::history_length(filiere),
     }
 }
 

@@ -1,5 +1,5 @@
 // Writes the name and the sheet of each filing that its arguments name.
-use ends::End;
+use file_run::End;
 use libc::STDOUT_FILENO;
 
 fn sheet_of(name: &[u8]) {
@@ -10,7 +10,7 @@ fn sheet_of(name: &[u8]) {
         os::fail(name);
         return;
     }
-    let r = filed::run(fd);
+    let r = file_run::run(fd);
     libc::close(fd);
     let end = r.end;
     if let End::Failure = end {
@@ -18,7 +18,7 @@ fn sheet_of(name: &[u8]) {
         return;
     }
     let printed = r.printed;
-    filed::write(STDOUT_FILENO, printed);
+    file_run::write(STDOUT_FILENO, printed);
 }
 
 fn named(i: usize) {

@@ -11,7 +11,7 @@ use Rattle.calendar.specs.declared.Years.{Years}
 use Rattle.calendar.specs.Dates.{isDate, isWinter}
 use Rattle.calendar.specs.Spans.{among, axisYears}
 use Rattle.text.specs.Fields.{fieldAt}
-use Rattle.text.specs.Numbers.{isDash, valueOf}
+use Rattle.text.specs.Numbered.{isDash, valueOf}
 use Rattle.meaning.specs.Filing.{Site}
 use Rattle.meaning.specs.Line.{Line, Tag, S, C, X, D, P, B, R, E, other, is, rank, Form, edition, number, numberOrDash, historyYear, axisYear, dateNumber, formsOf, tagOf, inForm, inRange, isMeter, kindOf, isKind, numberAt, yearOn, monthOn, dayOn, siteOn, valueAt, pointOf, hasDateOn, isWinterTag, mostPower, mostIndex, mostDaily, mostProfile}
 use Rattle.meaning.specs.Refusals.{Before, noDate, holds, hasNoDate, refusal}

@@ -2,7 +2,7 @@
 use mathlib.Core.List.{List, [], _∷_, _++_, map}
 use Prim.Native.Nat.{ℕ}
 use Rattle.lists.specs.Lists.{flat}
-use Rattle.digits.specs.Digits.{digitsOf}
+use Rattle.text.specs.Digits.{digitsOf}
 use Rattle.meaning.specs.Cases.{Case, caseM, case1, case2, case3, case4, caseP, case5, case6}
 use Rattle.meaning.specs.Level.{YearReport, Report}
 use Rattle.meaning.specs.Sheet.{Sheet, stopped, level}

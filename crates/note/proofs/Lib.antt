@@ -1,4 +1,6 @@
 pub mod Table
-pub mod PeakDays
+pub mod Annual
 pub mod Factors
 pub mod History
+pub mod PeakDays
+pub mod HistoryPeaks

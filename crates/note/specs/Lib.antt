@@ -1,3 +1,3 @@
-pub mod Peaks
 pub mod Coefficients
+pub mod Peaks
 pub mod Answers

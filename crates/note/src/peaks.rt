@@ -12,7 +12,7 @@ pub enum PeakDay {
 }
 
 // Where the year's part of the table begins.
-pub fn peak_start(year: u64) -> usize
+pub(crate) fn peak_start(year: u64) -> usize
     ensures { λ r. ⌜ r ≡ partStart year ⌝ }
 {
     if year < 2007 {

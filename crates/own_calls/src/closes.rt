@@ -6,7 +6,7 @@ ghost use mathlib.Core.Path.{_≡_};
 ghost use Rattle.meaning.specs.Calls.{closeOf};
 ghost use Rattle.readings.specs.Readings.{seen};
 ghost use Rattle.readings.specs.Columns.{world};
-ghost use Rattle.ended.specs.Ends.{handed};
+ghost use Rattle.close.specs.Ends.{handed};
 ghost use Rattle.site.specs.Views.{view, closesBack};
 
 pub fn close_own<'a>(

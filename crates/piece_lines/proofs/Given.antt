@@ -8,7 +8,7 @@ use lib.ListN.{length, drop}
 use Rattle.meaning.specs.Blocks.{World}
 use Rattle.meaning.specs.Calls.{lineOf}
 use Rattle.pieces.specs.Run.{runOf, fed}
-use Rattle.next_lines.specs.Found.{foundAt}
+use Rattle.pieces.specs.Found.{foundAt}
 use Rattle.site.specs.declared.Opened.{Opened}
 use Rattle.site.specs.Views.{view, handsBack}
 use Rattle.piece_lines.specs.declared.Turn.{Turn}

@@ -15,8 +15,8 @@ use Rattle.pieces.specs.Parts.{endAt, stepped}
 use Rattle.pieces.proofs.Feeding.{fed-append, kept}
 use Rattle.pieces.proofs.Parts.{end-within, longer-given, longer-held, none-left, turn-fed}
 use Rattle.answers.specs.Views.{answerView}
-use Rattle.next_lines.specs.declared.Found.{Found}
-use Rattle.next_lines.specs.Found.{partOf, leftAt, limitAt, bytesAt, foundAt}
+use Rattle.pieces.specs.declared.next_lines.Found.{Found}
+use Rattle.pieces.specs.Found.{partOf, leftAt, limitAt, bytesAt, foundAt}
 use Rattle.site.specs.declared.Opened.{Opened}
 use Rattle.site.specs.Views.{view, handsBack}
 use Rattle.piece_lines.specs.declared.Turn.{Turn}

@@ -8,7 +8,7 @@ use Rattle.meaning.specs.Blocks.{World}
 use Rattle.pieces.specs.Run as meant
 use Rattle.pieces.specs.Run.{runOf, isAnswered}
 use Rattle.answers.specs.Views.{answerView}
-use Rattle.next_lines.specs.Found.{partOf, foundAt}
+use Rattle.pieces.specs.Found.{partOf, foundAt}
 use Rattle.site.specs.declared.Opened.{Opened}
 use Rattle.site.specs.Views.{handsBack}
 use Rattle.piece_lines.specs.declared.Turn.{Turn}

@@ -1,11 +1,11 @@
 // The line of a turn, and the turn after it.
 use crate::Turn;
 use crate::next::next_turn;
-use next_lines::line_in;
+use pieces::line_in;
 use site::Opened;
 use site::Record;
 ghost use mathlib.Core.Path.{_≡_};
-ghost use Rattle.next_lines.specs.Found.{partOf};
+ghost use Rattle.pieces.specs.Found.{partOf};
 ghost use Rattle.piece_lines.specs.Turns.{turnOf};
 
 // The turn's line.

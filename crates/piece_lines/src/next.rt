@@ -1,7 +1,7 @@
 // The next line of a piece.
 use crate::Turn;
-use answered::is_answered;
-use next_lines::next_line;
+use pieces::is_answered;
+use pieces::next_line;
 use site::Opened;
 ghost use mathlib.Core.Path.{_≡_};
 ghost use mathlib.Core.Bool.{_&&_, not};

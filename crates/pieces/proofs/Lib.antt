@@ -6,3 +6,5 @@ pub mod Pieces
 pub mod Answers
 pub mod Levels
 pub mod Printed
+pub mod Joins
+pub mod Laws

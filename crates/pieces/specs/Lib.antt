@@ -1,3 +1,5 @@
 pub mod Run
 pub mod Parts
 pub mod Promise
+pub mod Joined
+pub mod Found

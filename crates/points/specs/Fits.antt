@@ -4,13 +4,13 @@ use mathlib.Core.List.{List}
 use Prim.Native.Nat.{ℕ, _≤_}
 use lib.ListN.{length, getD}
 use Rattle.meaning.specs.Blocks.{slotsSize}
-use Rattle.own_points.specs.declared.Basis.{Basis}
+use Rattle.points.specs.declared.own.Basis.{Basis}
 use Rattle.points.specs.Sources.{Day}
 -- of a point's code, a list's numbers, and a site's basis and CA
-unfoldable pub use Rattle.own_points.specs.Fits.{isPoint}
-pub use Rattle.own_points.specs.Fits.{PointsFit, BasisFits}
-pub use Rattle.donors.specs.Fits.{CasFit}
-pub use Rattle.years.specs.Fits.{AtMost}
+unfoldable pub use Rattle.points.specs.OwnFits.{isPoint}
+pub use Rattle.points.specs.OwnFits.{PointsFit, BasisFits}
+pub use Rattle.points.specs.DonorFits.{CasFit}
+pub use Rattle.history.specs.Fits.{AtMost}
 
 -- a rate's code: none, or 10 to 1000 thousandths
 pub record RateFits (r : ℕ) : Type 0 where

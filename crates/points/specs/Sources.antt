@@ -4,11 +4,11 @@ use Prim.Native.Nat.{ℕ, _+_}
 use lib.ListN.{getD}
 use Rattle.meaning.specs.Cases.{Case, caseM, case1, case2, case3, case4, caseP, case5, case6}
 use Rattle.meaning.specs.Points.{Donor, Source, own, fromDefault, ownOf, rebuiltBy}
-unfoldable pub use Rattle.years.specs.Years.{bit, positionIn, casFrom}
-use Rattle.own_points.specs.declared.Basis.{Basis}
-use Rattle.own_points.specs.Given.{readIn, profileIn, profiledOn}
-use Rattle.donors.specs.Given.{curveGiven, indexGiven, donorsAmong}
-use Rattle.years.specs.declared.Day.{Day as YearsOnDay}
+unfoldable pub use Rattle.history.specs.Years.{bit, positionIn, casFrom}
+use Rattle.points.specs.declared.own.Basis.{Basis}
+use Rattle.points.specs.OwnGiven.{readIn, profileIn, profiledOn}
+use Rattle.points.specs.DonorsGiven.{curveGiven, indexGiven, donorsAmong}
+use Rattle.history.specs.declared.Day.{Day as YearsOnDay}
 
 -- ---- what the points of a day are made from
 pub record Day : Type 0 where

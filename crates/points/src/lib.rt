@@ -1,12 +1,17 @@
 // The point of a place, before its rate, by its year's case (document 01, Cases).
+pub mod own; // a year's own points before their rate: as read, or profiled from its energy; and the default power
+mod donors; // rebuilt points: a place takes the sums over the donors that have the same month, day and half-hour, before rates
+mod curve_donors; // donors that have a valid curve
+mod index_donors; // donors that have a valid index
+
+use crate::own::Filled;
+use history::Case;
+pub use own::Basis;
 ghost use Prim.Native.Nat.{_<_};
-ghost use Rattle.own_points.specs.Fits.{BasisFits, FilledIs};
-ghost use Rattle.cases.specs.Cases.{meantCase};
+ghost use Rattle.points.specs.OwnFits.{BasisFits, FilledIs};
+ghost use Rattle.history.specs.Cases.{meantCase};
 ghost use Rattle.points.specs.Sources.{day, sourceIn};
 ghost use Rattle.points.specs.Fits.{DayFits};
-use cases::Case;
-use own_points::Basis;
-use own_points::Filled;
 
 // A history year: its number from the oldest, its case, and its rate in thousandths, 0 for none.
 pub struct Year {
@@ -36,7 +41,7 @@ pub fn filled<'a>(
     let k = y.k;
     let case = y.case;
     match case {
-        Case::M => own_points::measured(own_points::code(
+        Case::M => crate::own::measured(crate::own::code(
             near,
             far,
             b.al,
@@ -44,24 +49,24 @@ pub fn filled<'a>(
             w,
             h,
         )),
-        Case::T1 | Case::P => own_points::profiled(
+        Case::T1 | Case::P => crate::own::profiled(
             energies[k],
-            own_points::profile(slots, k, w, h),
+            crate::own::profile(slots, k, w, h),
             totals[k],
         ),
         Case::T2 => {
-            donors::rebuilt(
+            crate::donors::rebuilt(
                 cas[k],
-                curve_donors::from_curves(b, near, far, curves, cas, w, h),
+                crate::curve_donors::from_curves(b, near, far, curves, cas, w, h),
             )
         }
-        Case::T3 | Case::I5 => donors::rebuilt(
+        Case::T3 | Case::I5 => crate::donors::rebuilt(
             cas[k],
-            index_donors::from_indexes(b, slots, energies, totals, givers, cas, w, h),
+            crate::index_donors::from_indexes(b, slots, energies, totals, givers, cas, w, h),
         ),
-        Case::T4 | Case::I6 => own_points::by_default(
+        Case::T4 | Case::I6 => crate::own::by_default(
             b,
-            own_points::profile(slots, k, w, h),
+            crate::own::profile(slots, k, w, h),
             cas[k],
         ),
     }

@@ -3,3 +3,8 @@ pub mod Kept
 pub mod Gone
 pub mod Long
 pub mod Columned
+pub mod Row
+pub mod Fills
+pub mod Copied
+pub mod Laid
+pub mod Lends

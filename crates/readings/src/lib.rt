@@ -1,4 +1,9 @@
 // A reading: its position on the axis, its count in Wh and its kind. `reading_list` has the lent list of them.
+mod reading_list; // the readings as one lent list
+
+pub use reading_list::columns_of;
+pub use reading_list::put;
+pub use reading_list::set_fresh;
 ghost use mathlib.Core.Path.{_≡_};
 ghost use Rattle.meaning.specs.Blocks.{letterOfKind};
 ghost use Rattle.readings.specs.Readings.{kindView, kindLettered, freshReadings};
@@ -23,7 +28,7 @@ pub struct Columns {
     pub kinds: [u8; 600],
 }
 
-pub fn letter_of(kind: Kind) -> u8
+pub(crate) fn letter_of(kind: Kind) -> u8
     ensures { λ r. ⌜ r ≡ letterOfKind (kindView kind) ⌝ }
 {
     match kind {

@@ -1,7 +1,13 @@
 // Energies and powers, and the roundings between the readings of a site and its NCC (document 01, Cases).
 mod nearest;
+mod rebuilding; // what is rounded of points that were not measured: by energy and profile, by the donors, by default
+mod levels; // what is rounded of measured points: a point by its year's rate, and the level
 
-pub use nearest::half_up;
+pub use levels::level;
+pub use levels::rated;
+pub use rebuilding::by_default;
+pub use rebuilding::profiled;
+pub use rebuilding::rebuilt;
 
 // Wh: the difference of two index readings.
 pub struct Energy(pub u64);

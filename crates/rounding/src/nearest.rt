@@ -4,7 +4,7 @@ ghost use Prim.Native.Nat.{_<_};
 ghost use Rattle.rounding.specs.Rounding.{halfUp};
 
 // a over d. The remainder is compared with what it lacks to d, since twice a may not fit.
-pub fn half_up(a: u64, d: u64) -> u64
+pub(crate) fn half_up(a: u64, d: u64) -> u64
     requires { ⌜ 0 < d ⌝ }
     ensures { λ r. ⌜ r ≡ halfUp a d ⌝ }
 {

@@ -1,2 +1,3 @@
-pub mod Texts
-pub mod Ends
+pub mod Rows
+pub mod Years
+pub mod Chains

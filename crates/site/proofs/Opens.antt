@@ -4,7 +4,7 @@ use mathlib.Core.Bool.{Bool, true, false, cond}
 use Rattle.meaning.specs.Blocks.{World, freshWorld}
 use Rattle.meaning.specs.Record.{freshRec}
 use Rattle.meaning.specs.Calls.{out, took, leaves, openingOf}
-use Rattle.opening.specs.Opens.{Opens}
+use Rattle.open_and_line.specs.Opens.{Opens}
 use Rattle.site.specs.declared.Record.{Record}
 use Rattle.site.specs.Views.{view, openedBy}
 

@@ -1,9 +1,9 @@
 -- Equal views are equal records: what the promises say of views they say of records.
 use mathlib.Core.Path.{_≡_, refl, ap, sym, _∙_}
 use Rattle.meaning.specs.Record.{Rec}
-use Rattle.intake.specs.Views.{meterView, meterShown}
-use Rattle.intake.specs.declared.Meter.{Meter}
-use Rattle.intake.specs.declared.Meter.the-variants.{NoMeter, Curve, Index}
+use Rattle.line_form.specs.Views.{meterView, meterShown}
+use Rattle.line_form.specs.declared.Meter.{Meter}
+use Rattle.line_form.specs.declared.Meter.the-variants.{NoMeter, Curve, Index}
 use Rattle.site.specs.Views.{view}
 use Rattle.site.specs.declared.Record.{Record}
 

@@ -1,12 +1,12 @@
 -- The record, the answers and the lent blocks, as the calls have them and as the definitions of document 01 do.
 use mathlib.Core.Bool.{Bool, cond}
 use Rattle.answers.specs.Views.{answerView}
-use Rattle.steps.specs.Views.{recOf}
+use Rattle.progress.specs.ProgressViews.{recOf}
 use Rattle.meaning.specs.Blocks.{World}
 use Rattle.meaning.specs.Record.{Rec, freshRec}
 use Rattle.meaning.specs.Calls.{Out, out, took, leaves}
 use Rattle.site.specs.declared.Record.{Record}
-use Rattle.ended.specs.Ends.{Handed, hands}
+use Rattle.close.specs.Ends.{Handed, hands}
 use Rattle.site.specs.declared.Opened.{Opened}
 use Rattle.site.specs.declared.Closed.{Closed}
 

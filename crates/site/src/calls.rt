@@ -7,16 +7,16 @@ use crate::packing::line_answer;
 use crate::packing::open_answer;
 use crate::whole::hear;
 use crate::whole::shut;
-use opening::open_blocks;
-use reading_list::columns_of;
-use reading_list::put;
-use reading_list::set_fresh;
+use open_and_line::open_blocks;
 use readings::Reading;
+use readings::columns_of;
+use readings::put;
+use readings::set_fresh;
 ghost use mathlib.Core.Path.{_≡_};
 ghost use Rattle.meaning.specs.Calls.{openingOf, lineOf, closeOf};
 ghost use Rattle.readings.specs.Readings.{seen};
 ghost use Rattle.readings.specs.Columns.{world};
-ghost use Rattle.ended.specs.Ends.{handed};
+ghost use Rattle.close.specs.Ends.{handed};
 ghost use Rattle.site.specs.Views.{view, handsBack, closesBack};
 
 impl Record {

@@ -1,10 +1,10 @@
 // A record with no line taken.
 use crate::Record;
-use intake::Meter;
-use intake::Site;
-use ranges::Lasts;
-use ranges::Tallies;
-use steps::Progress;
+use line_form::Meter;
+use line_form::Site;
+use progress::Lasts;
+use progress::Progress;
+use progress::Tallies;
 ghost use mathlib.Core.Path.{_≡_};
 ghost use Rattle.meaning.specs.Record.{emptyRec, neverOpened};
 ghost use Rattle.site.specs.Views.{view};

@@ -10,8 +10,8 @@ mod packing; // what a call hands back
 mod whole; // the work of a line and of the close
 
 use answers::Answer;
-use ended::Year;
-use steps::Progress;
+use close::Year;
+use progress::Progress;
 
 pub struct Record {
     // 0 never opened, 1 open, 2 refused, 3 closed

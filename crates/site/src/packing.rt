@@ -4,12 +4,12 @@ use crate::Opened;
 use crate::Record;
 use crate::fresh::empty;
 use answers::Answer;
-use ended::Ended;
-use hearing::Heard;
+use close::Ended;
+use open_and_line::Heard;
 ghost use mathlib.Core.Path.{_≡_};
 ghost use Rattle.meaning.specs.Blocks.{World};
-ghost use Rattle.hearing.specs.Heard.{hearsBack};
-ghost use Rattle.ended.specs.Ends.{endsBack};
+ghost use Rattle.open_and_line.specs.Heard.{hearsBack};
+ghost use Rattle.close.specs.Ends.{endsBack};
 ghost use Rattle.site.specs.Views.{handsBack, openedBy, closesBack};
 
 // Open with nothing taken, or refused by 1, as the blocks have their sizes or not.

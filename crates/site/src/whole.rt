@@ -1,9 +1,9 @@
 // The work of a line and of the close, on a whole record.
 use crate::Record;
-use ended::Ended;
-use ending::close_blocks;
-use hearing::Heard;
-use hearing::hear_line;
+use close::Ended;
+use close::close_blocks;
+use open_and_line::Heard;
+use open_and_line::hear_line;
 use readings::Columns;
 ghost use mathlib.Core.Path.{_≡_};
 ghost use lib.ListN.{set};
@@ -11,8 +11,8 @@ ghost use Rattle.meaning.specs.Calls.{lineOf, closeOf};
 ghost use Rattle.readings.specs.Readings.{seen};
 ghost use Rattle.readings.specs.Columns.{world};
 ghost use Rattle.readings.specs.Lent.{EachLent, EachColumns};
-ghost use Rattle.hearing.specs.Heard.{hearsBack};
-ghost use Rattle.ended.specs.Ends.{endsBack, handed};
+ghost use Rattle.open_and_line.specs.Heard.{hearsBack};
+ghost use Rattle.close.specs.Ends.{endsBack, handed};
 ghost use Rattle.site.specs.Views.{view};
 
 pub(crate) fn hear(

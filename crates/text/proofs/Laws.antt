@@ -14,9 +14,9 @@ use Rattle.lists.specs.Lists.{any, Each, each-nil, each-cons}
 use Rattle.lists.proofs.Laws.{same, is-true, any-snoc}
 use Rattle.lists.proofs.Reflect.{of-eq, of-and}
 use Rattle.text.specs.Fields.{isStrange, upTo, past, tabAt, tabs, restAt, fieldAt, reads}
-use Rattle.text.specs.Numbers.{isDigit, isNumber, valueOf, most, numberedOf}
+use Rattle.text.specs.Numbered.{isDigit, isNumber, valueOf, most, numberedOf}
 use Rattle.text.specs.declared.Numbered.{Numbered}
-pub use Rattle.numbers.proofs.Laws.{any-here, any-on, any-end, value-snoc, number-snoc, ltb-capped, eqb-capped, of-digit, of-number, of-dash}
+pub use Rattle.text.proofs.NumberLaws.{any-here, any-on, any-end, value-snoc, number-snoc, ltb-capped, eqb-capped, of-digit, of-number, of-dash}
 
 -- ---- a walk: the first tab
 pub tab-here : (l : List ℕ) (i : ℕ) → i < length l → getD l i 0 ≡ 9 → tabAt (drop i l) ≡ 0

@@ -28,7 +28,7 @@ pub fn past(len: usize, e: usize) -> usize
 }
 
 // Whether a field is a text, byte for byte.
-pub fn reads(f: &[u8], text: &[u8]) -> bool
+pub(crate) fn reads(f: &[u8], text: &[u8]) -> bool
     ensures { λ r. ⌜ r ≡ reads (now (f .entry)) (now (text .entry)) ⌝ }
 {
     check::same(f, text)

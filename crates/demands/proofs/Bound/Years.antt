@@ -11,7 +11,7 @@ use Rattle.lists.proofs.Sums.{In, some-in, each-range, in-range}
 use Rattle.calendar.specs.Spans.{among, isKnown, historyYears}
 use Rattle.calendar.proofs.Laws.{among-words, history-bounds, axis-bounds}
 use Rattle.note.specs.Peaks.{hasPeaks}
-use Rattle.note.proofs.History.{peaks}
+use Rattle.note.proofs.HistoryPeaks.{peaks}
 use Rattle.meaning.specs.Filing.{Filing, historyOf, axisOf, yearsIn, historyList}
 
 -- a history year

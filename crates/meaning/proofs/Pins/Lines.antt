@@ -22,7 +22,7 @@ use Rattle.calendar.proofs.Tables.{beq→eq}
 use Rattle.calendar.proofs.Laws.Days.{date-day}
 use Rattle.calendar.proofs.Laws.Positions.{earlier-position}
 use Rattle.text.specs.Fields.{upTo, past, tabs, restAt, fieldAt, reads, edition as editionText}
-use Rattle.text.specs.Numbers.{isNumber, valueOf, isDash}
+use Rattle.text.specs.Numbered.{isNumber, valueOf, isDash}
 use Rattle.text.proofs.Laws.{of-reads, of-number, of-dash}
 use Rattle.meaning.specs.Filing.{noMeter, curveMeter, indexMeter, Site, noSite, real, corrected, estimated, strange}
 use Rattle.meaning.specs.Line.{Line, Tag, S, C, X, D, P, B, R, E, other, rank, is, tagOf, Form, number, numberOrDash, mostPower, mostIndex, mostDaily, mostProfile, formsOf, size, meterOfLetter, meterOf, isMeter, kindOfLetter, kindOf, isKind, inForm, inRange, someField, numberAt, yearOn, monthOn, dayOn, siteOn, hasDateOn, isWinterTag, hasYearOn, dateKey, keyOf, isRising}

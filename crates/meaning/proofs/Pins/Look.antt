@@ -20,7 +20,7 @@ use Rattle.calendar.specs.Places.{dateOfWinter}
 use Rattle.calendar.proofs.Laws.Days.{date-day}
 use Rattle.calendar.proofs.Laws.Winter.{winter-day-place}
 use Rattle.text.specs.Fields.{fieldAt}
-use Rattle.text.specs.Numbers.{isDash}
+use Rattle.text.specs.Numbered.{isDash}
 use Rattle.text.proofs.Laws.{of-dash}
 use Rattle.meaning.specs.Filing.{noMeter, curveMeter, indexMeter, Kind, real, corrected, estimated, strange}
 use Rattle.meaning.specs.Line.{Line, Tag, S, C, X, D, P, B, R, E, is, tagOf, meterOfLetter, meterOf, numberAt, yearOn, monthOn, dayOn, siteOn, valueAt, pointOf, kindOfLetter, kindOf, hasDateOn, dateKey, keyOf, winterOn, placeOn}

@@ -6,29 +6,29 @@ use denote.Enum.Declared.{tagOf}
 use lib.ListN.{getD}
 use Rattle.meaning.specs.Points.{Source, own, rebuiltBy}
 use Rattle.meaning.specs.Blocks.{slotAt}
-use Rattle.cases.specs.declared.Case.{Case}
-use Rattle.cases.proofs.Case.{the-type}
-use Rattle.cases.specs.declared.Case.the-variants.{M, T1, T2, T3, T4, P, I5, I6}
-use Rattle.own_points.specs.declared.Basis.{Basis}
-use Rattle.cases.specs.Cases.{meantCase}
-use Rattle.own_points.specs.Given.{codeIn, readIn, profiledOn}
-use Rattle.donors.specs.Given.{curveGiven, indexGiven}
+use Rattle.history.specs.declared.cases.Case.{Case}
+use Rattle.history.proofs.cases.Case.{the-type}
+use Rattle.history.specs.declared.cases.Case.the-variants.{M, T1, T2, T3, T4, P, I5, I6}
+use Rattle.points.specs.declared.own.Basis.{Basis}
+use Rattle.history.specs.Cases.{meantCase}
+use Rattle.points.specs.OwnGiven.{codeIn, readIn, profiledOn}
+use Rattle.points.specs.DonorsGiven.{curveGiven, indexGiven}
 use Rattle.points.specs.Sources.{Day, day, curveDonorsIn, indexDonorsIn, defaultIn, sourceIn}
-use Rattle.own_points.specs.Fits.{FilledIs}
-use Rattle.donors.proofs.Gathered.{fit-more, rebuilt-filled}
+use Rattle.points.specs.OwnFits.{FilledIs}
+use Rattle.points.proofs.Gathered.{fit-more, rebuilt-filled}
 use borrow.Author.Needs.{needs}
 use Rattle.points.proofs.filled.Statement.{statement}
 use Rattle.points.proofs.filled.Tie as tie
 use Rattle.points.proofs.filled.Reads as reads
 use Rattle.points.proofs.filled.Lts as lts
-use Rattle.own_points.proofs.by_default.Reads as by-default-reads
-use Rattle.own_points.proofs.code.Reads as code-reads
-use Rattle.own_points.proofs.measured.Reads as measured-reads
-use Rattle.own_points.proofs.profile.Reads as profile-reads
-use Rattle.own_points.proofs.profiled.Reads as profiled-reads
-use Rattle.curve_donors.proofs.from_curves.Reads as from-curves-reads
-use Rattle.index_donors.proofs.from_indexes.Reads as from-indexes-reads
-use Rattle.donors.proofs.rebuilt.Reads as rebuilt-reads
+use Rattle.points.proofs.own.by_default.Reads as by-default-reads
+use Rattle.points.proofs.own.code.Reads as code-reads
+use Rattle.points.proofs.own.measured.Reads as measured-reads
+use Rattle.points.proofs.own.profile.Reads as profile-reads
+use Rattle.points.proofs.own.profiled.Reads as profiled-reads
+use Rattle.points.proofs.curve_donors.from_curves.Reads as from-curves-reads
+use Rattle.points.proofs.index_donors.from_indexes.Reads as from-indexes-reads
+use Rattle.points.proofs.donors.rebuilt.Reads as rebuilt-reads
 
 -- ---- the cases that share a way, by the number of their variant
 no-case : {A : Type 0} {a b : ℕ} → (a ≡ b → ⊥) → {m n : ℕ} → (m ≡ n → ⊥) → (a ≡ b) ⊎ (m ≡ n) → A

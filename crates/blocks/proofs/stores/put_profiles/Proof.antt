@@ -3,7 +3,7 @@ use native.Mathlib.Omega.{arith}
 use Prim.Native.Nat.{_*_, _-_}
 use Rattle.meaning.specs.Blocks.{slotsStart}
 use Rattle.blocks.specs.Stores.{profileCode, slotsPut}
-use Rattle.point_rows.proofs.Runs.{row-put}
+use Rattle.blocks.proofs.Runs.{row-put}
 use Rattle.blocks.proofs.stores.put_profiles.Statement.{statement}
 use Rattle.blocks.proofs.stores.put_profiles.Tie as tie
 

@@ -6,7 +6,7 @@ use Prim.Native.Nat.{_-_, _+_, _≤_}
 use lib.ListN.{length, take, length-set}
 use lib.Seq.{sets}
 use Rattle.blocks.specs.Stores.{profileCode}
-use Rattle.point_rows.proofs.Runs.{stored-on, stored-all}
+use Rattle.blocks.proofs.Runs.{stored-on, stored-all}
 use Rattle.blocks.proofs.stores.store_profiles.Statement.{statement}
 use Rattle.blocks.proofs.stores.store_profiles.Tie as tie
 

@@ -9,8 +9,8 @@ use Rattle.curve.proofs.level.ncc.Statement.{statement}
 use Rattle.curve.proofs.level.ncc.Tie as tie
 use Rattle.curve.proofs.level.ncc.Reads as reads
 use Rattle.curve.proofs.level.ncc.Lts as lts
-use Rattle.note.proofs.coefficients.coefficient.Reads as coefficient-reads
-use Rattle.levels.proofs.level.Reads as level-reads
+use Rattle.note.proofs.coefficient.Reads as coefficient-reads
+use Rattle.rounding.proofs.level.Reads as level-reads
 
 coefficient-requires : tie.Need-coefficient-requires
 coefficient-requires c κs = search needs

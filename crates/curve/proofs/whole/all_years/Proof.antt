@@ -3,18 +3,18 @@ use Prim.Native.Nat.{_-_, _≤_}
 use borrow.Author.Needs.{needs}
 use native.Mathlib.Omega.{arith}
 use lib.ListN.{length, getD}
-use Rattle.cases.specs.Cases.{meantCase, caseOfCode}
-use Rattle.tallies.specs.Tallies.{plus}
-use Rattle.places.specs.Places.{heldWith}
+use Rattle.history.specs.Cases.{meantCase, caseOfCode}
+use Rattle.curve.specs.Tallies.{plus}
+use Rattle.curve.specs.YearPlaces.{heldWith}
 use Rattle.curve.specs.Places.{placesOf, allPlacesIn, presentYears, fillingOf, curveEntryIn, curveIn}
 use Rattle.curve.proofs.Years.{year-length, YearsWalked, no-years, years-on, years-over, present-length}
 use Rattle.curve.proofs.whole.all_years.Statement.{statement}
 use Rattle.curve.proofs.whole.all_years.Tie as tie
 use Rattle.curve.proofs.whole.all_years.Reads as reads
 use Rattle.curve.proofs.whole.all_years.Lts as lts
-use Rattle.tallies.proofs.plus.Reads as plus-reads
-use Rattle.places.proofs.year_places.Reads as year-places-reads
-use Rattle.cases.proofs.case_at.Reads as case-at-reads
+use Rattle.curve.proofs.tallies.plus.Reads as plus-reads
+use Rattle.curve.proofs.places.year_places.Reads as year-places-reads
+use Rattle.history.proofs.case_at.Reads as case-at-reads
 
 abbrev Inv-loop : tie.InvT-loop
 Inv-loop b m near far slots energies totals codes rates curve₀ n t₀ present₀ k₀ curve t present k =

@@ -1,5 +1,5 @@
 use mathlib.Core.Path.{ap, _∙_}
-use Rattle.years.specs.Years.{casSum}
+use Rattle.history.specs.Years.{casSum}
 use Rattle.curve.specs.Places.{basisOf}
 use Rattle.curve.proofs.Sites.{basis-fits, cas-most}
 use borrow.Author.Needs.{needs}
@@ -7,10 +7,10 @@ use Rattle.curve.proofs.whole.basis_of.Statement.{statement}
 use Rattle.curve.proofs.whole.basis_of.Tie as tie
 use Rattle.curve.proofs.whole.basis_of.Reads as reads
 use Rattle.curve.proofs.whole.basis_of.Lts as lts
-use Rattle.spans.proofs.history.Reads as history-reads
-use Rattle.note.proofs.coefficients.theta.Reads as theta-reads
-use Rattle.ca_sums.proofs.cas_from.Reads as cas-from-reads
-use Rattle.ca_sums.proofs.cas_sum.Reads as cas-sum-reads
+use Rattle.calendar.proofs.history.Reads as history-reads
+use Rattle.note.proofs.theta.Reads as theta-reads
+use Rattle.history.proofs.cas_from.Reads as cas-from-reads
+use Rattle.history.proofs.cas_sum.Reads as cas-sum-reads
 
 history-requires : tie.Need-history-requires
 history-requires c κs = search needs

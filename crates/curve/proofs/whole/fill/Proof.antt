@@ -1,4 +1,4 @@
-use Rattle.places.specs.Places.{held}
+use Rattle.curve.specs.YearPlaces.{held}
 use Rattle.curve.proofs.Sites.{held-fits}
 use borrow.Author.Needs.{needs}
 use Rattle.curve.proofs.whole.fill.Statement.{statement}

@@ -3,7 +3,7 @@ use Rattle.curve.proofs.whole.marks_of.Statement.{statement}
 use Rattle.curve.proofs.whole.marks_of.Tie as tie
 use Rattle.curve.proofs.whole.marks_of.Reads as reads
 use Rattle.curve.proofs.whole.marks_of.Lts as lts
-use Rattle.ca_sums.proofs.cas_from.Reads as cas-from-reads
+use Rattle.history.proofs.cas_from.Reads as cas-from-reads
 
 cas-from-requires : tie.Need-cas-from-requires
 cas-from-requires c κs = search needs

@@ -44,9 +44,9 @@ use denote.Struct.Laws as LL
 use Rattle.readings.specs.Readings.{seen}
 use Rattle.readings.specs.Columns.{world}
 use Rattle.meaning.specs.Calls.{closeOf}
-use Rattle.ended.specs.Ends.{handed}
+use Rattle.close.specs.Ends.{handed}
 use Rattle.site.specs.Views.{view, closesBack}
-use Rattle.reading_list.proofs.Lends.{Lent-shared, lends-shared, gives-back-shared}
+use Rattle.readings.proofs.Lends.{Lent-shared, lends-shared, gives-back-shared}
 use Rattle.site.specs.declared.Record.{Record}
 use Rattle.readings.specs.declared.Reading.{Reading}
 use Rattle.site.specs.declared.Closed.{Closed}

@@ -4,8 +4,8 @@ use Rattle.piece_lines.proofs.next.next_turn.Statement.{statement}
 use Rattle.piece_lines.proofs.next.next_turn.Tie as tie
 use Rattle.piece_lines.proofs.next.next_turn.Reads as reads
 use Rattle.piece_lines.proofs.next.next_turn.Lts as lts
-use Rattle.next_lines.proofs.next_line.Reads as next-line-reads
-use Rattle.answered.proofs.is_answered.Reads as is-answered-reads
+use Rattle.pieces.proofs.next_line.Reads as next-line-reads
+use Rattle.pieces.proofs.is_answered.Reads as is-answered-reads
 use Rattle.piece_lines.proofs.next.is_given.Reads as is-given-reads
 
 next-line-requires : tie.Need-next-line-requires

@@ -47,7 +47,7 @@ use Rattle.pieces.specs.Run.{runOf, fed}
 use Rattle.site.specs.Views.{handsBack}
 use Rattle.piece_lines.specs.Turns.{turnView}
 use Rattle.piece_lines.specs.Own.{turnWith}
-use Rattle.reading_list.proofs.Lends.{Lent, lends, gives-back}
+use Rattle.readings.proofs.Lends.{Lent, lends, gives-back}
 use Rattle.site.specs.declared.Opened.{Opened}
 use Rattle.piece_lines.specs.declared.Turn.{Turn}
 use Rattle.readings.specs.declared.Reading.{Reading}

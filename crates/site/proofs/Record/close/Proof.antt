@@ -44,17 +44,17 @@ use Rattle.readings.specs.Readings.{seen, columnsOf}
 use Rattle.readings.specs.Columns.{world}
 use Rattle.readings.specs.Lent.{EachColumns}
 use Rattle.meaning.specs.Blocks.{World}
-use Rattle.ended.specs.Ends.{endsBack, handed}
+use Rattle.close.specs.Ends.{endsBack, handed}
 use Rattle.site.specs.Views.{view, closesBack}
 use Rattle.site.specs.declared.Record.{Record}
-use Rattle.ended.specs.declared.told.Ended.{Ended}
+use Rattle.close.specs.declared.outcome.told.Ended.{Ended}
 use Rattle.site.specs.declared.Closed.{Closed}
 use Rattle.readings.specs.declared.Columns.{Columns}
 use Rattle.readings.specs.declared.Reading.{Reading}
 use Rattle.site.proofs.Record as T
 use Rattle.site.proofs.Record.Laws as T′
-use Rattle.ended.proofs.told.Ended as S
-use Rattle.ended.proofs.told.Ended.Laws as S′
+use Rattle.close.proofs.outcome.told.Ended as S
+use Rattle.close.proofs.outcome.told.Ended.Laws as S′
 use Rattle.site.proofs.Closed as O
 use Rattle.site.proofs.Closed.Laws as O′
 use Rattle.readings.proofs.Columns as B
@@ -62,10 +62,10 @@ use Rattle.readings.proofs.Columns.Laws as B′
 use Rattle.readings.proofs.Reading as R
 use Rattle.readings.proofs.Reading.Laws as R′
 use Rattle.readings.proofs.Gone.{full, gone}
-use Rattle.reading_list.proofs.columns_of as columns-of
-use Rattle.reading_list.proofs.columns_of.Symbol as columns-of-def
-use Rattle.reading_list.proofs.columns_of.Symbol.{name as #reading-list·columns-of}
-use Rattle.reading_list.proofs.columns_of.Met as columns-of-thm
+use Rattle.readings.proofs.columns_of as columns-of
+use Rattle.readings.proofs.columns_of.Symbol as columns-of-def
+use Rattle.readings.proofs.columns_of.Symbol.{name as #readings·columns-of}
+use Rattle.readings.proofs.columns_of.Met as columns-of-thm
 use Rattle.site.proofs.whole.shut as shut
 use Rattle.site.proofs.whole.shut.Symbol as shut-def
 use Rattle.site.proofs.whole.shut.Symbol.{name as #site·whole·shut}
@@ -201,7 +201,7 @@ module _ {M : Type 1} (𝓤 : URA M) (H : Heap 𝓤) (A : Atoms 𝓤) (W : Given
     left w w₁ k r r₂ w₂ curve′ is₂ e₁ e e₂ l-curve =
         gone ! $ gone ! $ gone ! $ gone ! $ gone ! $ gone ! $ gone ! $ gone ! $ gone ! $ gone ! $ gone ! $ gone ! $ gone ! $ free0 ! $ by ! (exits k r r₂ w₂ curve′ is₂ e₁ e e₂ l-curve)
 
-  module _ (C : Calls 𝓤 H) (Λ : Loops 𝓤 H) (fm : FmC 𝓤 H (W .laws) C) (known-columns-of : Triple 𝓤 (C #reading-list·columns-of) (ColumnsOf 𝓤 H A mem run)) (known-shut : Triple 𝓤 (C #site·whole·shut) (Shut 𝓤 H A mem run)) (known-close-answer : Triple 𝓤 (C #site·packing·close-answer) (CloseAnswer 𝓤 H A mem run)) where
+  module _ (C : Calls 𝓤 H) (Λ : Loops 𝓤 H) (fm : FmC 𝓤 H (W .laws) C) (known-columns-of : Triple 𝓤 (C #readings·columns-of) (ColumnsOf 𝓤 H A mem run)) (known-shut : Triple 𝓤 (C #site·whole·shut) (Shut 𝓤 H A mem run)) (known-close-answer : Triple 𝓤 (C #site·packing·close-answer) (CloseAnswer 𝓤 H A mem run)) where
     module _ (l₀ l₁ l₂ l₃ l₄ l₅ l₆ l₇ l₈ l₉ l₁₀ l₁₁ l₁₂ : ℕ) where
       after-close-answer : (r₁ : Columns) (w₁ : Val) (is₁ : Is B.the-row r₁ (w₁ ∷ [])) (e₁ : r₁ ≡ columnsOf (readings .now)) (r : Ended) (w : Val) (curve′ : List ℕ) (is : Is S.the-row r (w ∷ [])) (e : EachColumns (length (readings .now)) r₁ (λ rs. endsBack r (self .count) (self .progress) (world (near .now) (far .now) (slots .now) (daily .now) (seen rs) curve′) ≡ handed (closeOf (view self) (world (near .now) (far .now) (slots .now) (daily .now) (seen rs) (curve .now))))) (l-curve : length curve′ ≡ length (curve .now)) (r₂ : Closed) (w₂ : Val) (is₂ : Is O.the-row r₂ (w₂ ∷ [])) (e₂ : (x : World) → closesBack r₂ x ≡ endsBack r (self .count) (self .progress) x) → Sq W (‵ (flft κ₄ q₄) ∷ ‵ (flft κ₂ q₂) ∷ ‵ (flft κ₁ q₁) ∷ ‵ (flft κ₀ q₀) ∷ ‵ (finally u64 (curve .name) curve′) ∷ ‵ (flft κ₃ q₃) ∷ ‵ Own-near ∷ ‵ Own-far ∷ ‵ Own-slots ∷ ‵ Own-daily ∷ ‵ Own-readings ∷ ‵ (fat fullShare (sliceTy (tyRef erased mut (tyInt w64))) l₁₂ 0 v-curve) ∷ ‵ (fdies (sliceTy (tyRef erased mut (tyInt w64))) l₁₂) ∷ ‵ (fat fullShare (tyRef erased mut (tyInt w64)) l₁₁ 0 (vptr (curve .ptr .0) (curve .ptr .1))) ∷ ‵ (fdies (tyRef erased mut (tyInt w64)) l₁₁) ∷ ‵ (fat fullShare (tyInt w64) l₁₀ 0 (vint w64 (length (readings .now)))) ∷ ‵ (fdies (tyInt w64) l₁₀) ∷ ‵ (fat fullShare tyS l₉ 0 w) ∷ ‵ (fdies tyS l₉) ∷ ‵ (fat fullShare tyB l₈ 0 w₁) ∷ ‵ (fdies tyB l₈) ∷ ‵ (fat fullShare (sliceTy (tyRef (named 4) mut (tyInt w64))) l₇ 0 v-curve) ∷ ‵ (fdies (sliceTy (tyRef (named 4) mut (tyInt w64))) l₇) ∷ ‵ (fat fullShare (sliceTy (tyRef (named 3) imm (pointee (R.the-row .written)))) l₆ 0 v-readings) ∷ ‵ (fdies (sliceTy (tyRef (named 3) imm (pointee (R.the-row .written)))) l₆) ∷ ‵ (fat fullShare (sliceTy (tyRef (named 2) imm (tyInt w32))) l₅ 0 v-daily) ∷ ‵ (fdies (sliceTy (tyRef (named 2) imm (tyInt w32))) l₅) ∷ ‵ (fat fullShare (sliceTy (tyRef (named 1) imm (tyInt w16))) l₄ 0 v-slots) ∷ ‵ (fdies (sliceTy (tyRef (named 1) imm (tyInt w16))) l₄) ∷ ‵ (fat fullShare (sliceTy (tyRef (named 0) imm (tyInt w32))) l₃ 0 v-far) ∷ ‵ (fdies (sliceTy (tyRef (named 0) imm (tyInt w32))) l₃) ∷ ‵ (fat fullShare (sliceTy (tyRef (named 0) imm (tyInt w32))) l₂ 0 v-near) ∷ ‵ (fdies (sliceTy (tyRef (named 0) imm (tyInt w32))) l₂) ∷ ‵ (fat fullShare tyT l₁ 0 (LL.val T.the-type T′.the-laws self)) ∷ ‵ (fdies tyT l₁) ∷ ‵ (fat fullShare tyO l₀ 0 w₂) ∷ ‵ (fdies tyO l₀) ∷ []) (runs C Λ (En l₀ l₁ l₂ l₃ l₄ l₅ l₆ l₇ l₈ l₉ l₁₀ l₁₁ l₁₂) pieces.t-7 (atRet (En l₀ l₁ l₂ l₃ l₄ l₅ l₆ l₇ l₈ l₉ l₁₀ l₁₁ l₁₂) Post))
       after-close-answer r₁ w₁ is₁ e₁ r w curve′ is e l-curve r₂ w₂ is₂ e₂ =
@@ -250,7 +250,7 @@ module _ {M : Type 1} (𝓤 : URA M) (H : Heap 𝓤) (A : Atoms 𝓤) (W : Given
         begun l₀ l₁ l₂ l₃ l₄ l₅ l₆ l₇ l₈ l₉ l₁₀ l₁₁ l₁₂)))))))))))))
 
 module _ {M : Type 1} (𝓤 : URA M) (H : Heap 𝓤) (A : Atoms 𝓤) (W : Given 𝓤 H A) (mem : Memory → SProp 𝓤) (run : Routine → Fun 𝓤) where
-  walks : (C : Calls 𝓤 H) (Λ : Loops 𝓤 H) → FmC 𝓤 H (W .laws) C → Triple 𝓤 (C #reading-list·columns-of) (ColumnsOf 𝓤 H A mem run) → Triple 𝓤 (C #site·whole·shut) (Shut 𝓤 H A mem run) → Triple 𝓤 (C #site·packing·close-answer) (CloseAnswer 𝓤 H A mem run) → Walks 𝓤 H A f.ended stayed (WpFn 𝓤 H C Λ code.function) (f.clauses 𝓤 H A mem run)
+  walks : (C : Calls 𝓤 H) (Λ : Loops 𝓤 H) → FmC 𝓤 H (W .laws) C → Triple 𝓤 (C #readings·columns-of) (ColumnsOf 𝓤 H A mem run) → Triple 𝓤 (C #site·whole·shut) (Shut 𝓤 H A mem run) → Triple 𝓤 (C #site·packing·close-answer) (CloseAnswer 𝓤 H A mem run) → Walks 𝓤 H A f.ended stayed (WpFn 𝓤 H C Λ code.function) (f.clauses 𝓤 H A mem run)
   walks C Λ fm known-columns-of known-shut known-close-answer = walked 𝓤 H A f.ended stayed (f.clauses 𝓤 H A mem run) (WpFn 𝓤 H C Λ code.function)
       (λ κs. (LL.vals T.the-type T′.the-laws, (slice-vals, (slice-vals, (slice-vals, (slice-vals, (slice-vals, (slice-vals, tt))))))))
       (λ κs. (LL.tells T.the-type T′.the-laws, (shr-slice-tells (named 0) (κs .0) u32, (shr-slice-tells (named 0) (κs .0) u32, (shr-slice-tells (named 1) (κs .1 .0) u16, (shr-slice-tells (named 2) (κs .1 .1 .0) u32, (shr-slice-tells (named 3) (κs .1 .1 .1 .0) R.the-row, (mut-slice-tells (named 4) (κs .1 .1 .1 .1 .0) u64, tt))))))))
@@ -258,7 +258,7 @@ module _ {M : Type 1} (𝓤 : URA M) (H : Heap 𝓤) (A : Atoms 𝓤) (W : Given
       (a .0) (a .1 .0) (a .1 .1 .0) (a .1 .1 .1 .0) (a .1 .1 .1 .1 .0) (a .1 .1 .1 .1 .1 .0) (a .1 .1 .1 .1 .1 .1 .0)
       (are .0) (are .1 .0 .0 .1) (are .1 .1 .0 .0 .1) (are .1 .1 .1 .0 .0 .1) (are .1 .1 .1 .1 .0 .0 .1) (are .1 .1 .1 .1 .1 .0 .0 .1) (are .1 .1 .1 .1 .1 .1 .0 .0 .1) C Λ fm known-columns-of known-shut known-close-answer))
 
-meets : {M : Type 1} (𝓤 : URA M) (H : Heap 𝓤) (A : Atoms 𝓤) → Given 𝓤 H A → (mem : Memory → SProp 𝓤) (run : Routine → Fun 𝓤) (𝓣 : Tables 𝓤 H) → Triple 𝓤 (𝓣 .C #reading-list·columns-of) (ColumnsOf 𝓤 H A mem run) → Triple 𝓤 (𝓣 .C #site·whole·shut) (Shut 𝓤 H A mem run) → Triple 𝓤 (𝓣 .C #site·packing·close-answer) (CloseAnswer 𝓤 H A mem run)
+meets : {M : Type 1} (𝓤 : URA M) (H : Heap 𝓤) (A : Atoms 𝓤) → Given 𝓤 H A → (mem : Memory → SProp 𝓤) (run : Routine → Fun 𝓤) (𝓣 : Tables 𝓤 H) → Triple 𝓤 (𝓣 .C #readings·columns-of) (ColumnsOf 𝓤 H A mem run) → Triple 𝓤 (𝓣 .C #site·whole·shut) (Shut 𝓤 H A mem run) → Triple 𝓤 (𝓣 .C #site·packing·close-answer) (CloseAnswer 𝓤 H A mem run)
     → Meets 𝓤 H A f.signature (WpFn 𝓤 H (𝓣 .C) (𝓣 .Λ) code.function) (f.spec 𝓤 H A mem run)
 meets 𝓤 H A W mem run 𝓣 known-columns-of known-shut known-close-answer =
     walk-meets 𝓤 H A f.ended stayed W
@@ -271,6 +271,6 @@ close-spec 𝓤 H 𝓜 𝓖 𝓡 =
     entered 𝓤 H (tripleOf 𝓤 H (𝓖 .A) f.signature (f.spec 𝓤 H (𝓖 .A) (𝓜 .mem) (𝓡 .run)))
     (tables 𝓤 H 𝓜 𝓡 code.env .C) (tables 𝓤 H 𝓜 𝓡 code.env .Λ) #site·Record·close code.function (code.unfolded 𝓤 H 𝓜 𝓡)
     (meets 𝓤 H (𝓖 .A) (givenOf 𝓤 H 𝓜 𝓖) (𝓜 .mem) (𝓡 .run) (tablesOf 𝓤 H 𝓜 (tables 𝓤 H 𝓜 𝓡 code.env))
-    (cited 𝓤 H (ColumnsOf 𝓤 H (𝓖 .A) (𝓜 .mem) (𝓡 .run)) 𝓜 𝓡 code.env #reading-list·columns-of columns-of-def.routine code.calls-reading-list·columns-of (columns-of-thm.met 𝓤 H 𝓜 𝓖 𝓡))
+    (cited 𝓤 H (ColumnsOf 𝓤 H (𝓖 .A) (𝓜 .mem) (𝓡 .run)) 𝓜 𝓡 code.env #readings·columns-of columns-of-def.routine code.calls-readings·columns-of (columns-of-thm.met 𝓤 H 𝓜 𝓖 𝓡))
     (cited 𝓤 H (Shut 𝓤 H (𝓖 .A) (𝓜 .mem) (𝓡 .run)) 𝓜 𝓡 code.env #site·whole·shut shut-def.routine code.calls-site·whole·shut (shut-thm.met 𝓤 H 𝓜 𝓖 𝓡))
     (cited 𝓤 H (CloseAnswer 𝓤 H (𝓖 .A) (𝓜 .mem) (𝓡 .run)) 𝓜 𝓡 code.env #site·packing·close-answer close-answer-def.routine code.calls-site·packing·close-answer (close-answer-thm.met 𝓤 H 𝓜 𝓖 𝓡)))

@@ -44,16 +44,16 @@ use Rattle.meaning.specs.Calls.{lineOf}
 use Rattle.readings.specs.Readings.{seen}
 use Rattle.readings.specs.Columns.{world}
 use Rattle.readings.specs.Lent.{EachLent}
-use Rattle.hearing.specs.Heard.{hearsBack}
+use Rattle.open_and_line.specs.Heard.{hearsBack}
 use Rattle.site.specs.Views.{view, handsBack}
 use Rattle.site.specs.declared.Record.{Record}
-use Rattle.hearing.specs.declared.heard.Heard.{Heard}
+use Rattle.open_and_line.specs.declared.hearing.heard.Heard.{Heard}
 use Rattle.site.specs.declared.Opened.{Opened}
 use Rattle.readings.specs.declared.Reading.{Reading}
 use Rattle.site.proofs.Record as T
 use Rattle.site.proofs.Record.Laws as T′
-use Rattle.hearing.proofs.heard.Heard as S
-use Rattle.hearing.proofs.heard.Heard.Laws as S′
+use Rattle.open_and_line.proofs.hearing.heard.Heard as S
+use Rattle.open_and_line.proofs.hearing.heard.Heard.Laws as S′
 use Rattle.site.proofs.Opened as O
 use Rattle.site.proofs.Opened.Laws as O′
 use Rattle.readings.proofs.Reading as R
@@ -63,10 +63,10 @@ use Rattle.site.proofs.whole.hear as hear
 use Rattle.site.proofs.whole.hear.Symbol as hear-def
 use Rattle.site.proofs.whole.hear.Symbol.{name as #site·whole·hear}
 use Rattle.site.proofs.whole.hear.Met as hear-thm
-use Rattle.reading_list.proofs.put as put
-use Rattle.reading_list.proofs.put.Symbol as put-def
-use Rattle.reading_list.proofs.put.Symbol.{name as #reading-list·put}
-use Rattle.reading_list.proofs.put.Met as put-thm
+use Rattle.readings.proofs.put as put
+use Rattle.readings.proofs.put.Symbol as put-def
+use Rattle.readings.proofs.put.Symbol.{name as #readings·put}
+use Rattle.readings.proofs.put.Met as put-thm
 use Rattle.site.proofs.packing.line_answer as line-answer
 use Rattle.site.proofs.packing.line_answer.Symbol as line-answer-def
 use Rattle.site.proofs.packing.line_answer.Symbol.{name as #site·packing·line-answer}
@@ -201,7 +201,7 @@ module _ {M : Type 1} (𝓤 : URA M) (H : Heap 𝓤) (A : Atoms 𝓤) (W : Given
     left w₁ r r₂ w₂ near′ far′ slots′ daily′ readings′ is₂ e e₁ e₂ l-near l-far l-slots l-daily l-readings =
         gone ! $ gone ! $ gone ! $ gone ! $ gone ! $ gone ! $ gone ! $ gone ! $ gone ! $ gone ! $ gone ! $ gone ! $ gone ! $ gone ! $ gone ! $ gone ! $ gone ! $ gone ! $ gone ! $ gone ! $ gone ! $ gone ! $ gone ! $ free0 ! $ by ! (exits r r₂ w₂ near′ far′ slots′ daily′ readings′ is₂ e e₁ e₂ l-near l-far l-slots l-daily l-readings)
 
-  module _ (C : Calls 𝓤 H) (Λ : Loops 𝓤 H) (fm : FmC 𝓤 H (W .laws) C) (known-hear : Triple 𝓤 (C #site·whole·hear) (Hear 𝓤 H A mem run)) (known-put : Triple 𝓤 (C #reading-list·put) (PutR 𝓤 H A mem run)) (known-line-answer : Triple 𝓤 (C #site·packing·line-answer) (LineAnswer 𝓤 H A mem run)) where
+  module _ (C : Calls 𝓤 H) (Λ : Loops 𝓤 H) (fm : FmC 𝓤 H (W .laws) C) (known-hear : Triple 𝓤 (C #site·whole·hear) (Hear 𝓤 H A mem run)) (known-put : Triple 𝓤 (C #readings·put) (PutR 𝓤 H A mem run)) (known-line-answer : Triple 𝓤 (C #site·packing·line-answer) (LineAnswer 𝓤 H A mem run)) where
     module _ (l₀ l₁ l₂ l₃ l₄ l₅ l₆ l₇ l₈ l₉ l₁₀ l₁₁ l₁₂ l₁₃ l₁₄ l₁₅ l₁₆ l₁₇ l₁₈ l₁₉ l₂₀ l₂₁ l₂₂ : ℕ) where
       after-line-answer : (r : Heard) (w : Val) (near′ : List ℕ) (far′ : List ℕ) (slots′ : List ℕ) (daily′ : List ℕ) (is : Is S.the-row r (w ∷ [])) (e : EachLent (length (readings .now)) (length (curve .now)) (λ rs c. hearsBack r (world near′ far′ slots′ daily′ (seen (set rs (r .slot) (r .reading))) c) ≡ lineOf (view self) (line .now) (world (near .now) (far .now) (slots .now) (daily .now) (seen rs) c))) (l-near : length near′ ≡ length (near .now)) (l-far : length far′ ≡ length (far .now)) (l-slots : length slots′ ≡ length (slots .now)) (l-daily : length daily′ ≡ length (daily .now)) (r₁ : Unit {0}) (w₁ : Val) (readings′ : List Reading) (e₁ : readings′ ≡ set (readings .now) (r .slot) (r .reading)) (l-readings : length readings′ ≡ length (readings .now)) (r₂ : Opened) (w₂ : Val) (is₂ : Is O.the-row r₂ (w₂ ∷ [])) (e₂ : (x : World) → handsBack r₂ x ≡ hearsBack r x) → Sq W (‵ (flft κ₅ q₅) ∷ ‵ (finally R.the-row (readings .name) readings′) ∷ ‵ (flft κ₄ q₄) ∷ ‵ (flft κ₃ q₃) ∷ ‵ (flft κ₂ q₂) ∷ ‵ (flft κ₁ q₁) ∷ ‵ (flft κ₀ q₀) ∷ ‵ (finally u32 (daily .name) daily′) ∷ ‵ (finally u16 (slots .name) slots′) ∷ ‵ (finally u32 (far .name) far′) ∷ ‵ (finally u32 (near .name) near′) ∷ ‵ (flft κ₆ q₆) ∷ ‵ Own-line ∷ ‵ Own-curve ∷ ‵ (fat fullShare (sliceTy (tyRef erased mut (pointee (R.the-row .written)))) l₂₂ 0 v-readings) ∷ ‵ (fdies (sliceTy (tyRef erased mut (pointee (R.the-row .written)))) l₂₂) ∷ ‵ (fat fullShare (tyRef erased mut (pointee (R.the-row .written))) l₂₁ 0 (vptr (readings .ptr .0) (readings .ptr .1))) ∷ ‵ (fdies (tyRef erased mut (pointee (R.the-row .written))) l₂₁) ∷ ‵ (fat fullShare tyUnit l₂₀ 0 w₁) ∷ ‵ (fdies tyUnit l₂₀) ∷ ‵ (fat fullShare (tyInt w64) l₁₉ 0 (vint w64 (length (curve .now)))) ∷ ‵ (fdies (tyInt w64) l₁₉) ∷ ‵ (fat fullShare (tyInt w64) l₁₈ 0 (vint w64 (length (readings .now)))) ∷ ‵ (fdies (tyInt w64) l₁₈) ∷ ‵ (fat fullShare (sliceTy (tyRef erased mut (tyInt w32))) l₁₇ 0 v-daily) ∷ ‵ (fdies (sliceTy (tyRef erased mut (tyInt w32))) l₁₇) ∷ ‵ (fat fullShare (tyRef erased mut (tyInt w32)) l₁₆ 0 (vptr (daily .ptr .0) (daily .ptr .1))) ∷ ‵ (fdies (tyRef erased mut (tyInt w32)) l₁₆) ∷ ‵ (fat fullShare (sliceTy (tyRef erased mut (tyInt w16))) l₁₅ 0 v-slots) ∷ ‵ (fdies (sliceTy (tyRef erased mut (tyInt w16))) l₁₅) ∷ ‵ (fat fullShare (tyRef erased mut (tyInt w16)) l₁₄ 0 (vptr (slots .ptr .0) (slots .ptr .1))) ∷ ‵ (fdies (tyRef erased mut (tyInt w16)) l₁₄) ∷ ‵ (fat fullShare (sliceTy (tyRef erased mut (tyInt w32))) l₁₃ 0 v-far) ∷ ‵ (fdies (sliceTy (tyRef erased mut (tyInt w32))) l₁₃) ∷ ‵ (fat fullShare (tyRef erased mut (tyInt w32)) l₁₂ 0 (vptr (far .ptr .0) (far .ptr .1))) ∷ ‵ (fdies (tyRef erased mut (tyInt w32)) l₁₂) ∷ ‵ (fat fullShare (sliceTy (tyRef erased mut (tyInt w32))) l₁₁ 0 v-near) ∷ ‵ (fdies (sliceTy (tyRef erased mut (tyInt w32))) l₁₁) ∷ ‵ (fat fullShare (tyRef erased mut (tyInt w32)) l₁₀ 0 (vptr (near .ptr .0) (near .ptr .1))) ∷ ‵ (fdies (tyRef erased mut (tyInt w32)) l₁₀) ∷ ‵ (fat fullShare tyS l₉ 0 (LL.val S.the-type S′.the-laws r)) ∷ ‵ (fdies tyS l₉) ∷ ‵ (fat fullShare (sliceTy (tyRef (named 6) imm (tyInt w64))) l₈ 0 v-curve) ∷ ‵ (fdies (sliceTy (tyRef (named 6) imm (tyInt w64))) l₈) ∷ ‵ (fat fullShare (sliceTy (tyRef (named 5) mut (pointee (R.the-row .written)))) l₇ 0 v-readings) ∷ ‵ (fdies (sliceTy (tyRef (named 5) mut (pointee (R.the-row .written)))) l₇) ∷ ‵ (fat fullShare (sliceTy (tyRef (named 4) mut (tyInt w32))) l₆ 0 v-daily) ∷ ‵ (fdies (sliceTy (tyRef (named 4) mut (tyInt w32))) l₆) ∷ ‵ (fat fullShare (sliceTy (tyRef (named 3) mut (tyInt w16))) l₅ 0 v-slots) ∷ ‵ (fdies (sliceTy (tyRef (named 3) mut (tyInt w16))) l₅) ∷ ‵ (fat fullShare (sliceTy (tyRef (named 2) mut (tyInt w32))) l₄ 0 v-far) ∷ ‵ (fdies (sliceTy (tyRef (named 2) mut (tyInt w32))) l₄) ∷ ‵ (fat fullShare (sliceTy (tyRef (named 1) mut (tyInt w32))) l₃ 0 v-near) ∷ ‵ (fdies (sliceTy (tyRef (named 1) mut (tyInt w32))) l₃) ∷ ‵ (fat fullShare (sliceTy (tyRef (named 0) imm (tyInt w8))) l₂ 0 v-line) ∷ ‵ (fdies (sliceTy (tyRef (named 0) imm (tyInt w8))) l₂) ∷ ‵ (fat fullShare tyT l₁ 0 (LL.val T.the-type T′.the-laws self)) ∷ ‵ (fdies tyT l₁) ∷ ‵ (fat fullShare tyO l₀ 0 w₂) ∷ ‵ (fdies tyO l₀) ∷ []) (runs C Λ (En l₀ l₁ l₂ l₃ l₄ l₅ l₆ l₇ l₈ l₉ l₁₀ l₁₁ l₁₂ l₁₃ l₁₄ l₁₅ l₁₆ l₁₇ l₁₈ l₁₉ l₂₀ l₂₁ l₂₂) pieces.t-16 (atRet (En l₀ l₁ l₂ l₃ l₄ l₅ l₆ l₇ l₈ l₉ l₁₀ l₁₁ l₁₂ l₁₃ l₁₄ l₁₅ l₁₆ l₁₇ l₁₈ l₁₉ l₂₀ l₂₁ l₂₂) Post))
       after-line-answer r w near′ far′ slots′ daily′ is e l-near l-far l-slots l-daily r₁ w₁ readings′ e₁ l-readings r₂ w₂ is₂ e₂ =
@@ -251,7 +251,7 @@ module _ {M : Type 1} (𝓤 : URA M) (H : Heap 𝓤) (A : Atoms 𝓤) (W : Given
         begun l₀ l₁ l₂ l₃ l₄ l₅ l₆ l₇ l₈ l₉ l₁₀ l₁₁ l₁₂ l₁₃ l₁₄ l₁₅ l₁₆ l₁₇ l₁₈ l₁₉ l₂₀ l₂₁ l₂₂)))))))))))))))))))))))
 
 module _ {M : Type 1} (𝓤 : URA M) (H : Heap 𝓤) (A : Atoms 𝓤) (W : Given 𝓤 H A) (mem : Memory → SProp 𝓤) (run : Routine → Fun 𝓤) where
-  walks : (C : Calls 𝓤 H) (Λ : Loops 𝓤 H) → FmC 𝓤 H (W .laws) C → Triple 𝓤 (C #site·whole·hear) (Hear 𝓤 H A mem run) → Triple 𝓤 (C #reading-list·put) (PutR 𝓤 H A mem run) → Triple 𝓤 (C #site·packing·line-answer) (LineAnswer 𝓤 H A mem run) → Walks 𝓤 H A f.ended stayed (WpFn 𝓤 H C Λ code.function) (f.clauses 𝓤 H A mem run)
+  walks : (C : Calls 𝓤 H) (Λ : Loops 𝓤 H) → FmC 𝓤 H (W .laws) C → Triple 𝓤 (C #site·whole·hear) (Hear 𝓤 H A mem run) → Triple 𝓤 (C #readings·put) (PutR 𝓤 H A mem run) → Triple 𝓤 (C #site·packing·line-answer) (LineAnswer 𝓤 H A mem run) → Walks 𝓤 H A f.ended stayed (WpFn 𝓤 H C Λ code.function) (f.clauses 𝓤 H A mem run)
   walks C Λ fm known-hear known-put known-line-answer = walked 𝓤 H A f.ended stayed (f.clauses 𝓤 H A mem run) (WpFn 𝓤 H C Λ code.function)
       (λ κs. (LL.vals T.the-type T′.the-laws, (slice-vals, (slice-vals, (slice-vals, (slice-vals, (slice-vals, (slice-vals, (slice-vals, tt)))))))))
       (λ κs. (LL.tells T.the-type T′.the-laws, (shr-slice-tells (named 0) (κs .0) u8, (mut-slice-tells (named 1) (κs .1 .0) u32, (mut-slice-tells (named 2) (κs .1 .1 .0) u32, (mut-slice-tells (named 3) (κs .1 .1 .1 .0) u16, (mut-slice-tells (named 4) (κs .1 .1 .1 .1 .0) u32, (mut-slice-tells (named 5) (κs .1 .1 .1 .1 .1 .0) R.the-row, (shr-slice-tells (named 6) (κs .1 .1 .1 .1 .1 .1 .0) u64, tt)))))))))
@@ -259,7 +259,7 @@ module _ {M : Type 1} (𝓤 : URA M) (H : Heap 𝓤) (A : Atoms 𝓤) (W : Given
       (a .0) (a .1 .0) (a .1 .1 .0) (a .1 .1 .1 .0) (a .1 .1 .1 .1 .0) (a .1 .1 .1 .1 .1 .0) (a .1 .1 .1 .1 .1 .1 .0) (a .1 .1 .1 .1 .1 .1 .1 .0)
       (are .0) (are .1 .0 .0 .1) (are .1 .1 .0 .0 .1) (are .1 .1 .1 .0 .0 .1) (are .1 .1 .1 .1 .0 .0 .1) (are .1 .1 .1 .1 .1 .0 .0 .1) (are .1 .1 .1 .1 .1 .1 .0 .0 .1) (are .1 .1 .1 .1 .1 .1 .1 .0 .0 .1) C Λ fm known-hear known-put known-line-answer))
 
-meets : {M : Type 1} (𝓤 : URA M) (H : Heap 𝓤) (A : Atoms 𝓤) → Given 𝓤 H A → (mem : Memory → SProp 𝓤) (run : Routine → Fun 𝓤) (𝓣 : Tables 𝓤 H) → Triple 𝓤 (𝓣 .C #site·whole·hear) (Hear 𝓤 H A mem run) → Triple 𝓤 (𝓣 .C #reading-list·put) (PutR 𝓤 H A mem run) → Triple 𝓤 (𝓣 .C #site·packing·line-answer) (LineAnswer 𝓤 H A mem run)
+meets : {M : Type 1} (𝓤 : URA M) (H : Heap 𝓤) (A : Atoms 𝓤) → Given 𝓤 H A → (mem : Memory → SProp 𝓤) (run : Routine → Fun 𝓤) (𝓣 : Tables 𝓤 H) → Triple 𝓤 (𝓣 .C #site·whole·hear) (Hear 𝓤 H A mem run) → Triple 𝓤 (𝓣 .C #readings·put) (PutR 𝓤 H A mem run) → Triple 𝓤 (𝓣 .C #site·packing·line-answer) (LineAnswer 𝓤 H A mem run)
     → Meets 𝓤 H A f.signature (WpFn 𝓤 H (𝓣 .C) (𝓣 .Λ) code.function) (f.spec 𝓤 H A mem run)
 meets 𝓤 H A W mem run 𝓣 known-hear known-put known-line-answer =
     walk-meets 𝓤 H A f.ended stayed W
@@ -273,5 +273,5 @@ line-spec 𝓤 H 𝓜 𝓖 𝓡 =
     (tables 𝓤 H 𝓜 𝓡 code.env .C) (tables 𝓤 H 𝓜 𝓡 code.env .Λ) #site·Record·line code.function (code.unfolded 𝓤 H 𝓜 𝓡)
     (meets 𝓤 H (𝓖 .A) (givenOf 𝓤 H 𝓜 𝓖) (𝓜 .mem) (𝓡 .run) (tablesOf 𝓤 H 𝓜 (tables 𝓤 H 𝓜 𝓡 code.env))
     (cited 𝓤 H (Hear 𝓤 H (𝓖 .A) (𝓜 .mem) (𝓡 .run)) 𝓜 𝓡 code.env #site·whole·hear hear-def.routine code.calls-site·whole·hear (hear-thm.met 𝓤 H 𝓜 𝓖 𝓡))
-    (cited 𝓤 H (PutR 𝓤 H (𝓖 .A) (𝓜 .mem) (𝓡 .run)) 𝓜 𝓡 code.env #reading-list·put put-def.routine code.calls-reading-list·put (put-thm.met 𝓤 H 𝓜 𝓖 𝓡))
+    (cited 𝓤 H (PutR 𝓤 H (𝓖 .A) (𝓜 .mem) (𝓡 .run)) 𝓜 𝓡 code.env #readings·put put-def.routine code.calls-readings·put (put-thm.met 𝓤 H 𝓜 𝓖 𝓡))
     (cited 𝓤 H (LineAnswer 𝓤 H (𝓖 .A) (𝓜 .mem) (𝓡 .run)) 𝓜 𝓡 code.env #site·packing·line-answer line-answer-def.routine code.calls-site·packing·line-answer (line-answer-thm.met 𝓤 H 𝓜 𝓖 𝓡)))

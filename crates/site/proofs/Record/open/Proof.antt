@@ -44,7 +44,7 @@ use Rattle.meaning.specs.Blocks.{World}
 use Rattle.readings.specs.Readings.{seen, freshened}
 use Rattle.readings.specs.Columns.{world}
 use Rattle.readings.specs.Lent.{EachList}
-use Rattle.opening.specs.Opens.{Opens}
+use Rattle.open_and_line.specs.Opens.{Opens}
 use Rattle.site.specs.Views.{handsBack, openedBy}
 use Rattle.site.proofs.Opens.{opens-to}
 use Rattle.site.specs.declared.Record.{Record}
@@ -57,14 +57,14 @@ use Rattle.site.proofs.Opened.Laws as O′
 use Rattle.readings.proofs.Reading as R
 use Rattle.readings.proofs.Reading.Laws as R′
 use Rattle.readings.proofs.Gone.{full, gone}
-use Rattle.opening.proofs.open_blocks as open-blocks
-use Rattle.opening.proofs.open_blocks.Symbol as open-blocks-def
-use Rattle.opening.proofs.open_blocks.Symbol.{name as #opening·open-blocks}
-use Rattle.opening.proofs.open_blocks.Met as open-blocks-thm
-use Rattle.reading_list.proofs.set_fresh as set-fresh
-use Rattle.reading_list.proofs.set_fresh.Symbol as set-fresh-def
-use Rattle.reading_list.proofs.set_fresh.Symbol.{name as #reading-list·set-fresh}
-use Rattle.reading_list.proofs.set_fresh.Met as set-fresh-thm
+use Rattle.open_and_line.proofs.open_blocks as open-blocks
+use Rattle.open_and_line.proofs.open_blocks.Symbol as open-blocks-def
+use Rattle.open_and_line.proofs.open_blocks.Symbol.{name as #open-and-line·open-blocks}
+use Rattle.open_and_line.proofs.open_blocks.Met as open-blocks-thm
+use Rattle.readings.proofs.set_fresh as set-fresh
+use Rattle.readings.proofs.set_fresh.Symbol as set-fresh-def
+use Rattle.readings.proofs.set_fresh.Symbol.{name as #readings·set-fresh}
+use Rattle.readings.proofs.set_fresh.Met as set-fresh-thm
 use Rattle.site.proofs.packing.open_answer as open-answer
 use Rattle.site.proofs.packing.open_answer.Symbol as open-answer-def
 use Rattle.site.proofs.packing.open_answer.Symbol.{name as #site·packing·open-answer}
@@ -190,7 +190,7 @@ module _ {M : Type 1} (𝓤 : URA M) (H : Heap 𝓤) (A : Atoms 𝓤) (W : Given
     left w₁ r r₂ w₂ near′ far′ slots′ daily′ readings′ curve′ is₂ e e₁ e₂ l-near l-far l-slots l-daily l-readings l-curve =
         gone ! $ gone ! $ gone ! $ gone ! $ gone ! $ gone ! $ gone ! $ gone ! $ gone ! $ gone ! $ gone ! $ gone ! $ gone ! $ gone ! $ gone ! $ gone ! $ gone ! $ gone ! $ gone ! $ gone ! $ gone ! $ gone ! $ gone ! $ free0 ! $ by ! (exits r r₂ w₂ near′ far′ slots′ daily′ readings′ curve′ is₂ e e₁ e₂ l-near l-far l-slots l-daily l-readings l-curve)
 
-  module _ (C : Calls 𝓤 H) (Λ : Loops 𝓤 H) (fm : FmC 𝓤 H (W .laws) C) (known-open-blocks : Triple 𝓤 (C #opening·open-blocks) (OpenBlocks 𝓤 H A mem run)) (known-set-fresh : Triple 𝓤 (C #reading-list·set-fresh) (SetFresh 𝓤 H A mem run)) (known-open-answer : Triple 𝓤 (C #site·packing·open-answer) (OpenAnswer 𝓤 H A mem run)) where
+  module _ (C : Calls 𝓤 H) (Λ : Loops 𝓤 H) (fm : FmC 𝓤 H (W .laws) C) (known-open-blocks : Triple 𝓤 (C #open-and-line·open-blocks) (OpenBlocks 𝓤 H A mem run)) (known-set-fresh : Triple 𝓤 (C #readings·set-fresh) (SetFresh 𝓤 H A mem run)) (known-open-answer : Triple 𝓤 (C #site·packing·open-answer) (OpenAnswer 𝓤 H A mem run)) where
     module _ (l₀ l₁ l₂ l₃ l₄ l₅ l₆ l₇ l₈ l₉ l₁₀ l₁₁ l₁₂ l₁₃ l₁₄ l₁₅ l₁₆ l₁₇ l₁₈ l₁₉ l₂₀ l₂₁ l₂₂ : ℕ) where
       after-open-answer : (r : Bool) (w : Val) (near′ : List ℕ) (far′ : List ℕ) (slots′ : List ℕ) (daily′ : List ℕ) (curve′ : List ℕ) (is : Is bool r (w ∷ [])) (e : EachList (length (readings .now)) (λ rs. Opens r (world (near .now) (far .now) (slots .now) (daily .now) (seen rs) (curve .now)) (world near′ far′ slots′ daily′ (seen (freshened r rs)) curve′))) (l-near : length near′ ≡ length (near .now)) (l-far : length far′ ≡ length (far .now)) (l-slots : length slots′ ≡ length (slots .now)) (l-daily : length daily′ ≡ length (daily .now)) (l-curve : length curve′ ≡ length (curve .now)) (r₁ : Unit {0}) (w₁ : Val) (readings′ : List Reading) (e₁ : readings′ ≡ freshened r (readings .now)) (l-readings : length readings′ ≡ length (readings .now)) (r₂ : Opened) (w₂ : Val) (is₂ : Is O.the-row r₂ (w₂ ∷ [])) (e₂ : (x : World) → handsBack r₂ x ≡ openedBy r self x) → Sq W (‵ (flft κ₄ q₄) ∷ ‵ (finally R.the-row (readings .name) readings′) ∷ ‵ (flft κ₅ q₅) ∷ ‵ (flft κ₃ q₃) ∷ ‵ (flft κ₂ q₂) ∷ ‵ (flft κ₁ q₁) ∷ ‵ (flft κ₀ q₀) ∷ ‵ (finally u64 (curve .name) curve′) ∷ ‵ (finally u32 (daily .name) daily′) ∷ ‵ (finally u16 (slots .name) slots′) ∷ ‵ (finally u32 (far .name) far′) ∷ ‵ (finally u32 (near .name) near′) ∷ ‵ (fat fullShare (sliceTy (tyRef erased mut (pointee (R.the-row .written)))) l₂₂ 0 v-readings) ∷ ‵ (fdies (sliceTy (tyRef erased mut (pointee (R.the-row .written)))) l₂₂) ∷ ‵ (fat fullShare (tyRef erased mut (pointee (R.the-row .written))) l₂₁ 0 (vptr (readings .ptr .0) (readings .ptr .1))) ∷ ‵ (fdies (tyRef erased mut (pointee (R.the-row .written))) l₂₁) ∷ ‵ (fat fullShare tyUnit l₂₀ 0 w₁) ∷ ‵ (fdies tyUnit l₂₀) ∷ ‵ (fat fullShare (sliceTy (tyRef erased mut (tyInt w64))) l₁₉ 0 v-curve) ∷ ‵ (fdies (sliceTy (tyRef erased mut (tyInt w64))) l₁₉) ∷ ‵ (fat fullShare (tyRef erased mut (tyInt w64)) l₁₈ 0 (vptr (curve .ptr .0) (curve .ptr .1))) ∷ ‵ (fdies (tyRef erased mut (tyInt w64)) l₁₈) ∷ ‵ (fat fullShare (tyInt w64) l₁₇ 0 (vint w64 (length (readings .now)))) ∷ ‵ (fdies (tyInt w64) l₁₇) ∷ ‵ (fat fullShare (sliceTy (tyRef erased mut (tyInt w32))) l₁₆ 0 v-daily) ∷ ‵ (fdies (sliceTy (tyRef erased mut (tyInt w32))) l₁₆) ∷ ‵ (fat fullShare (tyRef erased mut (tyInt w32)) l₁₅ 0 (vptr (daily .ptr .0) (daily .ptr .1))) ∷ ‵ (fdies (tyRef erased mut (tyInt w32)) l₁₅) ∷ ‵ (fat fullShare (sliceTy (tyRef erased mut (tyInt w16))) l₁₄ 0 v-slots) ∷ ‵ (fdies (sliceTy (tyRef erased mut (tyInt w16))) l₁₄) ∷ ‵ (fat fullShare (tyRef erased mut (tyInt w16)) l₁₃ 0 (vptr (slots .ptr .0) (slots .ptr .1))) ∷ ‵ (fdies (tyRef erased mut (tyInt w16)) l₁₃) ∷ ‵ (fat fullShare (sliceTy (tyRef erased mut (tyInt w32))) l₁₂ 0 v-far) ∷ ‵ (fdies (sliceTy (tyRef erased mut (tyInt w32))) l₁₂) ∷ ‵ (fat fullShare (tyRef erased mut (tyInt w32)) l₁₁ 0 (vptr (far .ptr .0) (far .ptr .1))) ∷ ‵ (fdies (tyRef erased mut (tyInt w32)) l₁₁) ∷ ‵ (fat fullShare (sliceTy (tyRef erased mut (tyInt w32))) l₁₀ 0 v-near) ∷ ‵ (fdies (sliceTy (tyRef erased mut (tyInt w32))) l₁₀) ∷ ‵ (fat fullShare (tyRef erased mut (tyInt w32)) l₉ 0 (vptr (near .ptr .0) (near .ptr .1))) ∷ ‵ (fdies (tyRef erased mut (tyInt w32)) l₉) ∷ ‵ (fat fullShare tyBool l₈ 0 (vbool r)) ∷ ‵ (fdies tyBool l₈) ∷ ‵ (fat fullShare (sliceTy (tyRef (named 5) mut (tyInt w64))) l₇ 0 v-curve) ∷ ‵ (fdies (sliceTy (tyRef (named 5) mut (tyInt w64))) l₇) ∷ ‵ (fat fullShare (sliceTy (tyRef (named 4) mut (pointee (R.the-row .written)))) l₆ 0 v-readings) ∷ ‵ (fdies (sliceTy (tyRef (named 4) mut (pointee (R.the-row .written)))) l₆) ∷ ‵ (fat fullShare (sliceTy (tyRef (named 3) mut (tyInt w32))) l₅ 0 v-daily) ∷ ‵ (fdies (sliceTy (tyRef (named 3) mut (tyInt w32))) l₅) ∷ ‵ (fat fullShare (sliceTy (tyRef (named 2) mut (tyInt w16))) l₄ 0 v-slots) ∷ ‵ (fdies (sliceTy (tyRef (named 2) mut (tyInt w16))) l₄) ∷ ‵ (fat fullShare (sliceTy (tyRef (named 1) mut (tyInt w32))) l₃ 0 v-far) ∷ ‵ (fdies (sliceTy (tyRef (named 1) mut (tyInt w32))) l₃) ∷ ‵ (fat fullShare (sliceTy (tyRef (named 0) mut (tyInt w32))) l₂ 0 v-near) ∷ ‵ (fdies (sliceTy (tyRef (named 0) mut (tyInt w32))) l₂) ∷ ‵ (fat fullShare tyT l₁ 0 (LL.val T.the-type T′.the-laws self)) ∷ ‵ (fdies tyT l₁) ∷ ‵ (fat fullShare tyO l₀ 0 w₂) ∷ ‵ (fdies tyO l₀) ∷ []) (runs C Λ (En l₀ l₁ l₂ l₃ l₄ l₅ l₆ l₇ l₈ l₉ l₁₀ l₁₁ l₁₂ l₁₃ l₁₄ l₁₅ l₁₆ l₁₇ l₁₈ l₁₉ l₂₀ l₂₁ l₂₂) pieces.t-17 (atRet (En l₀ l₁ l₂ l₃ l₄ l₅ l₆ l₇ l₈ l₉ l₁₀ l₁₁ l₁₂ l₁₃ l₁₄ l₁₅ l₁₆ l₁₇ l₁₈ l₁₉ l₂₀ l₂₁ l₂₂) Post))
       after-open-answer r w near′ far′ slots′ daily′ curve′ is e l-near l-far l-slots l-daily l-curve r₁ w₁ readings′ e₁ l-readings r₂ w₂ is₂ e₂ =
@@ -240,7 +240,7 @@ module _ {M : Type 1} (𝓤 : URA M) (H : Heap 𝓤) (A : Atoms 𝓤) (W : Given
         begun l₀ l₁ l₂ l₃ l₄ l₅ l₆ l₇ l₈ l₉ l₁₀ l₁₁ l₁₂ l₁₃ l₁₄ l₁₅ l₁₆ l₁₇ l₁₈ l₁₉ l₂₀ l₂₁ l₂₂)))))))))))))))))))))))
 
 module _ {M : Type 1} (𝓤 : URA M) (H : Heap 𝓤) (A : Atoms 𝓤) (W : Given 𝓤 H A) (mem : Memory → SProp 𝓤) (run : Routine → Fun 𝓤) where
-  walks : (C : Calls 𝓤 H) (Λ : Loops 𝓤 H) → FmC 𝓤 H (W .laws) C → Triple 𝓤 (C #opening·open-blocks) (OpenBlocks 𝓤 H A mem run) → Triple 𝓤 (C #reading-list·set-fresh) (SetFresh 𝓤 H A mem run) → Triple 𝓤 (C #site·packing·open-answer) (OpenAnswer 𝓤 H A mem run) → Walks 𝓤 H A f.ended stayed (WpFn 𝓤 H C Λ code.function) (f.clauses 𝓤 H A mem run)
+  walks : (C : Calls 𝓤 H) (Λ : Loops 𝓤 H) → FmC 𝓤 H (W .laws) C → Triple 𝓤 (C #open-and-line·open-blocks) (OpenBlocks 𝓤 H A mem run) → Triple 𝓤 (C #readings·set-fresh) (SetFresh 𝓤 H A mem run) → Triple 𝓤 (C #site·packing·open-answer) (OpenAnswer 𝓤 H A mem run) → Walks 𝓤 H A f.ended stayed (WpFn 𝓤 H C Λ code.function) (f.clauses 𝓤 H A mem run)
   walks C Λ fm known-open-blocks known-set-fresh known-open-answer = walked 𝓤 H A f.ended stayed (f.clauses 𝓤 H A mem run) (WpFn 𝓤 H C Λ code.function)
       (λ κs. (LL.vals T.the-type T′.the-laws, (slice-vals, (slice-vals, (slice-vals, (slice-vals, (slice-vals, (slice-vals, tt))))))))
       (λ κs. (LL.tells T.the-type T′.the-laws, (mut-slice-tells (named 0) (κs .0) u32, (mut-slice-tells (named 1) (κs .1 .0) u32, (mut-slice-tells (named 2) (κs .1 .1 .0) u16, (mut-slice-tells (named 3) (κs .1 .1 .1 .0) u32, (mut-slice-tells (named 4) (κs .1 .1 .1 .1 .0) R.the-row, (mut-slice-tells (named 5) (κs .1 .1 .1 .1 .1 .0) u64, tt))))))))
@@ -248,7 +248,7 @@ module _ {M : Type 1} (𝓤 : URA M) (H : Heap 𝓤) (A : Atoms 𝓤) (W : Given
       (a .0) (a .1 .0) (a .1 .1 .0) (a .1 .1 .1 .0) (a .1 .1 .1 .1 .0) (a .1 .1 .1 .1 .1 .0) (a .1 .1 .1 .1 .1 .1 .0)
       (are .0) (are .1 .0 .0 .1) (are .1 .1 .0 .0 .1) (are .1 .1 .1 .0 .0 .1) (are .1 .1 .1 .1 .0 .0 .1) (are .1 .1 .1 .1 .1 .0 .0 .1) (are .1 .1 .1 .1 .1 .1 .0 .0 .1) C Λ fm known-open-blocks known-set-fresh known-open-answer))
 
-meets : {M : Type 1} (𝓤 : URA M) (H : Heap 𝓤) (A : Atoms 𝓤) → Given 𝓤 H A → (mem : Memory → SProp 𝓤) (run : Routine → Fun 𝓤) (𝓣 : Tables 𝓤 H) → Triple 𝓤 (𝓣 .C #opening·open-blocks) (OpenBlocks 𝓤 H A mem run) → Triple 𝓤 (𝓣 .C #reading-list·set-fresh) (SetFresh 𝓤 H A mem run) → Triple 𝓤 (𝓣 .C #site·packing·open-answer) (OpenAnswer 𝓤 H A mem run)
+meets : {M : Type 1} (𝓤 : URA M) (H : Heap 𝓤) (A : Atoms 𝓤) → Given 𝓤 H A → (mem : Memory → SProp 𝓤) (run : Routine → Fun 𝓤) (𝓣 : Tables 𝓤 H) → Triple 𝓤 (𝓣 .C #open-and-line·open-blocks) (OpenBlocks 𝓤 H A mem run) → Triple 𝓤 (𝓣 .C #readings·set-fresh) (SetFresh 𝓤 H A mem run) → Triple 𝓤 (𝓣 .C #site·packing·open-answer) (OpenAnswer 𝓤 H A mem run)
     → Meets 𝓤 H A f.signature (WpFn 𝓤 H (𝓣 .C) (𝓣 .Λ) code.function) (f.spec 𝓤 H A mem run)
 meets 𝓤 H A W mem run 𝓣 known-open-blocks known-set-fresh known-open-answer =
     walk-meets 𝓤 H A f.ended stayed W
@@ -261,6 +261,6 @@ open-spec 𝓤 H 𝓜 𝓖 𝓡 =
     entered 𝓤 H (tripleOf 𝓤 H (𝓖 .A) f.signature (f.spec 𝓤 H (𝓖 .A) (𝓜 .mem) (𝓡 .run)))
     (tables 𝓤 H 𝓜 𝓡 code.env .C) (tables 𝓤 H 𝓜 𝓡 code.env .Λ) #site·Record·open code.function (code.unfolded 𝓤 H 𝓜 𝓡)
     (meets 𝓤 H (𝓖 .A) (givenOf 𝓤 H 𝓜 𝓖) (𝓜 .mem) (𝓡 .run) (tablesOf 𝓤 H 𝓜 (tables 𝓤 H 𝓜 𝓡 code.env))
-    (cited 𝓤 H (OpenBlocks 𝓤 H (𝓖 .A) (𝓜 .mem) (𝓡 .run)) 𝓜 𝓡 code.env #opening·open-blocks open-blocks-def.routine code.calls-opening·open-blocks (open-blocks-thm.met 𝓤 H 𝓜 𝓖 𝓡))
-    (cited 𝓤 H (SetFresh 𝓤 H (𝓖 .A) (𝓜 .mem) (𝓡 .run)) 𝓜 𝓡 code.env #reading-list·set-fresh set-fresh-def.routine code.calls-reading-list·set-fresh (set-fresh-thm.met 𝓤 H 𝓜 𝓖 𝓡))
+    (cited 𝓤 H (OpenBlocks 𝓤 H (𝓖 .A) (𝓜 .mem) (𝓡 .run)) 𝓜 𝓡 code.env #open-and-line·open-blocks open-blocks-def.routine code.calls-open-and-line·open-blocks (open-blocks-thm.met 𝓤 H 𝓜 𝓖 𝓡))
+    (cited 𝓤 H (SetFresh 𝓤 H (𝓖 .A) (𝓜 .mem) (𝓡 .run)) 𝓜 𝓡 code.env #readings·set-fresh set-fresh-def.routine code.calls-readings·set-fresh (set-fresh-thm.met 𝓤 H 𝓜 𝓖 𝓡))
     (cited 𝓤 H (OpenAnswer 𝓤 H (𝓖 .A) (𝓜 .mem) (𝓡 .run)) 𝓜 𝓡 code.env #site·packing·open-answer open-answer-def.routine code.calls-site·packing·open-answer (open-answer-thm.met 𝓤 H 𝓜 𝓖 𝓡)))

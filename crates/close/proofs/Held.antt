@@ -1,0 +1,250 @@
+-- What 1 has told of a file, as the facts that the walk over its years asks for, and its marks as document 01's.
+use mathlib.Core.Path.{_≡_, refl, ap, sym, subst, _∙_}
+use mathlib.Core.Bool.{Bool, true, false, _&&_, _||_, not, cond}
+use mathlib.Core.List.{List}
+use mathlib.Core.Option.{Option, some, none}
+use Prim.Native.Nat.{ℕ, _+_, _-_, _/_, _%_, _≤_, _<_}
+use native.Mathlib.Omega.{arith}
+use lib.Dec.{T, eqb, leb, ltb, eqb→eq, leb→le}
+use lib.ListN.{length, getD}
+use borrow.Author.Tests.{le-leb, ltb-false}
+use Rattle.lists.proofs.Tables.{and-parts, and-made}
+use Rattle.lists.proofs.AllAt.{allAt-read}
+use Rattle.calendar.specs.declared.Years.{Years}
+use Rattle.calendar.specs.Spans.{among, isKnown, historyYears, axisYears}
+use Rattle.calendar.proofs.Laws.{among-words, history-short}
+use Rattle.meaning.specs.Filing.{Site, Filing, historyOf}
+use Rattle.meaning.specs.Refusals.{isTooSoon}
+use Rattle.meaning.specs.Line.{mostPower}
+use Rattle.meaning.specs.Validity.{Interval, curveValid, indexValid}
+use Rattle.meaning.specs.Cases.{isDefault, caseOf}
+use Rattle.meaning.specs.Points.{Origin, asRead, byProfile, profiledIn, profiledAt, intervalAt, positionAt}
+use Rattle.meaning.specs.Closing.{allWinterDates, allDates}
+use Rattle.meaning.specs.Blocks.{World, missingPoint, rowSize, pointsSize, slotsSize, dailySize, readingsSize, curveSize, sizesFit}
+use Rattle.meaning.specs.Record.{Tallies, historyOfSite, isWithin, siteFits, eachYear, talliesFit, isDated, pointFits, pointsFit, filingHeld}
+use Rattle.validity.specs.Rows.{rowOf}
+use Rattle.validity.specs.Availability.{validRow}
+use Rattle.validity.proofs.Filings.{valid-is}
+use Rattle.validity.specs.Columns.{isSet, Rising, Counting}
+use Rattle.validity.specs.Days.{energiesOf, totalsOf}
+use Rattle.validity.specs.Index.{validIndex}
+use Rattle.validity.proofs.Filed.{columns-rise, columns-count, columns-kinds, columns-daily, by-year}
+use Rattle.validity.proofs.Valid.{index-valid-held}
+use Rattle.validity.proofs.Totals.{profiled-year}
+use Rattle.validity.proofs.Bounds.{energies-most, totals-most}
+use Rattle.history.specs.Cases.{meantCase, caseOfCode, isCurve, caseCodes, isSet as isMark}
+use Rattle.points.specs.Sources.{positionIn, bit}
+use Rattle.points.specs.Fits.{isPoint, RateFits, RatesFit}
+use Rattle.curve.specs.Places.{basisOf}
+use Rattle.curve.specs.Fits.{SiteFits, ListsFit}
+use Rattle.curve.proofs.Sites.{basis-fits}
+use Rattle.curve.proofs.Filings.{Means}
+use Rattle.curve.proofs.Given.{position-is, points-fit, cases-are}
+use Rattle.history.specs.Marks.{curveMarkAt, curveMarks, indexMarkAt, indexMarks, defaultMark, defaultMarks}
+use Rattle.close.specs.Closes.{FileFits}
+use Rattle.history.proofs.Ten.{at-year}
+
+-- ---- the site
+pub site-words : (t : Site) → T (siteFits true t) → T (isKnown (t .al) (t .filiere)) × (t .ps ≤ mostPower)
+unfolding siteFits isWithin isKnown
+site-words t h =
+    let a = and-parts (leb 2021 (t .al) && leb (t .al) 2026) _ h in
+    let b = and-parts (leb 1 (t .filiere) && leb (t .filiere) 11) _ (a .1) in
+    let p = and-parts (leb 1 (t .ps) && leb (t .ps) mostPower) _ (b .1) in
+    (and-made (leb 2021 (t .al) && leb (t .al) 2026) (leb 1 (t .filiere) && leb (t .filiere) 11) (a .0) (b .0), leb→le (t .ps) mostPower (and-parts (leb 1 (t .ps)) _ (p .0) .1))
+
+late-words : (al f : ℕ) → T (not (isTooSoon al f)) → 6 ≤ f → 2023 ≤ al
+unfolding isTooSoon
+late-words al f h g = go (ltb al 2023) refl (rw (le-leb 6 f g) at h)
+  where
+    go : (b : Bool) → ltb al 2023 ≡ b → T (not b) → 2023 ≤ al
+    go true e u = absurd u
+    go false e u = ltb-false al 2023 e
+
+-- ---- numbers of the tallies and the blocks
+point-fits : (h : Years) (first : ℕ) (xs : List ℕ) → T (pointsFit h first xs) → (i : ℕ) → T (isPoint (getD xs i missingPoint))
+unfolding pointsFit pointFits isPoint
+point-fits h first xs t i =
+    let v = getD xs i missingPoint in
+    fit (eqb v missingPoint) (isDated h (first + i / rowSize) (i % rowSize / 20)) (leb v mostPower)
+    (allAt-read (λ j u. eqb u missingPoint || (isDated h (first + j / rowSize) (j % rowSize / 20) && leb u mostPower)) xs missingPoint t (λ j. tt) i)
+  where
+    fit : (a b c : Bool) → T (a || (b && c)) → T (a || c)
+    fit true b c u = tt
+    fit false b c u = and-parts b c u .1
+
+rate-fits : (b : Bool) (r : ℕ) → T (cond b (eqb r 0 || isWithin 10 1000 r) (eqb r 0)) → RateFits r
+unfolding isWithin
+rate-fits false r t = let e = eqb→eq r 0 t in record { least = λ n. absurd (n e); most = omega (arith, e) }
+rate-fits true r t = go (eqb r 0) refl t
+  where
+    go : (z : Bool) → eqb r 0 ≡ z → T (z || (leb 10 r && leb r 1000)) → RateFits r
+    go true e u = let q = eqb→eq r 0 (subst T (sym e) tt) in record { least = λ n. absurd (n q); most = omega (arith, q) }
+    go false e u = let p = and-parts (leb 10 r) (leb r 1000) u in record { least = λ n. leb→le 10 r (p .0); most = leb→le r 1000 (p .1) }
+
+rates-fit : (h : Years) (k : Tallies) → T (talliesFit h k) → RatesFit (k .rates)
+unfolding talliesFit eachYear
+rates-fit h k t i =
+    let d = and-parts (eachYear h (λ y n. leb n (allWinterDates y)) (k .profileDates)) _ t in
+    let b = and-parts (eachYear (axisYears h) (λ y n. leb n (allDates y)) (k .dailyDates)) _ (d .1) in
+    let r = and-parts (eachYear h (λ y n. leb n 1) (k .breaks)) _ (b .1) in
+    rate-fits (ltb i (h .count)) (getD (k .rates) i 0)
+    (allAt-read (λ j n. cond (ltb j (h .count)) (eqb n 0 || isWithin 10 1000 n) (eqb n 0)) (k .rates) 0 (r .1) (λ j. none-zero (ltb j (h .count))) i)
+  where
+    none-zero : (b : Bool) → T (cond b (eqb 0 0 || isWithin 10 1000 0) (eqb 0 0))
+    none-zero true = tt
+    none-zero false = tt
+
+-- ---- the sizes that are asked for beside the columns'
+block-sizes : (w : World) → T (sizesFit w) → (length (w .slots) ≡ slotsSize) × (length (w .curve) ≡ curveSize)
+unfolding sizesFit
+block-sizes w t =
+    let n = and-parts (eqb (length (w .near)) pointsSize) _ t in
+    let f = and-parts (eqb (length (w .far)) pointsSize) _ (n .1) in
+    let s = and-parts (eqb (length (w .slots)) slotsSize) _ (f .1) in
+    let d = and-parts (eqb (length (w .daily)) dailySize) _ (s .1) in
+    let r = and-parts (eqb (length (w .readings)) readingsSize) _ (d .1) in
+    (eqb→eq (length (w .slots)) slotsSize (s .0), eqb→eq (length (w .curve)) curveSize (r .1))
+
+-- ---- what an interval is profiled to, whatever the profile value
+energyIn : Origin → ℕ
+energyIn (asRead w) = 0
+energyIn (byProfile e p t) = e
+
+totalIn : Origin → ℕ
+totalIn (asRead w) = 0
+totalIn (byProfile e p t) = t
+
+any-profile : (F : Filing) (o : Option Interval) (p q e t : ℕ) → profiledIn F o p ≡ byProfile e p t → profiledIn F o q ≡ byProfile e q t
+unfolding profiledIn energyIn totalIn
+any-profile F none p q e t h = ap (λ (x : Origin). byProfile (energyIn x) q (totalIn x)) h
+any-profile F (some v) p q e t h = ap (λ (x : Origin). byProfile (energyIn x) q (totalIn x)) h
+
+mark-bit : (b : Bool) → isMark (bit b) ≡ b
+unfolding isMark bit
+mark-bit true = refl
+mark-bit false = refl
+
+module _ {t : Site} {n : ℕ} {k : Tallies} {w : World} {ps xs ks : List ℕ} (fit : FileFits t n k w ps xs ks) where
+  abbrev F : Filing
+  F = filingHeld t n k true w
+
+  abbrev h : Years
+  h = historyYears (t .al) (t .filiere)
+
+  pub known : T (isKnown (t .al) (t .filiere))
+  known = site-words t (fit .site) .0
+
+  pub site-fits : SiteFits (t .al) (t .filiere) (t .ps)
+  site-fits = record { known = known; late = late-words (t .al) (t .filiere) (fit .late); ps = site-words t (fit .site) .1 }
+
+  pub short : h .count ≤ 10
+  short = history-short (t .al) (t .filiere) known
+
+  pub oldest : h .first ≤ 2021
+  unfolding basisOf
+  oldest = basis-fits (t .al) (t .filiere) (t .ps) site-fits .first
+
+  in-history : (j : ℕ) → j < h .count → T (among (historyOfSite t) (h .first + j))
+  unfolding historyOfSite
+  in-history j l = among-words h (h .first + j) .1 (omega arith, omega (arith, l))
+
+  -- ---- the columns and the blocks
+  pub rise : Rising ps n
+  rise = columns-rise t n w (fit .columns) (fit .few) (fit .readings)
+
+  pub climb : Counting xs n
+  climb = columns-count t n w (fit .columns) (fit .few) (fit .readings)
+
+  pub kinds-held : n ≤ length ks
+  kinds-held = columns-kinds t n w (fit .columns) (fit .few)
+
+  pub daily-size : length (w .daily) ≡ 4392
+  daily-size = columns-daily w (fit .sizes)
+
+  pub curve-size : length (w .curve) ≡ 4400
+  curve-size = block-sizes w (fit .sizes) .1
+
+  abbrev energies : List ℕ
+  energies = energiesOf ps xs n
+
+  abbrev totals : List ℕ
+  totals = totalsOf ps (w .daily) n
+
+  pub lists-fit : ListsFit (t .al) (w .near) (w .far) (w .slots) energies totals (k .rates)
+  lists-fit = record {
+    points = points-fit (t .al) (w .near) (w .far) (point-fits (historyOfSite t) (t .al - 9) (w .near) (fit .near)) (point-fits (historyOfSite t) (t .al - 14) (w .far) (fit .far));
+    slots = block-sizes w (fit .sizes) .0;
+    energies = energies-most t n w (fit .columns) (fit .readings);
+    totals = totals-most t n w (fit .columns) (fit .readings) rise (fit .daily);
+    rates = rates-fit (historyOfSite t) k (fit .tallies);
+  }
+
+  -- ---- the marks
+  abbrev curves : List ℕ
+  curves = curveMarks (t .al) h (w .near) (w .far) (k .breaks)
+
+  abbrev indexes : List ℕ
+  indexes = indexMarks ps ks n (h .count) (k .breaks)
+
+  abbrev codes : List ℕ
+  codes = caseCodes (isCurve (t .meter)) (h .count) curves indexes
+
+  abbrev defaults : List ℕ
+  defaults = defaultMarks codes (h .count)
+
+  broken : (j : ℕ) → j < h .count → F .broken (h .first + j) ≡ isSet (k .breaks) j
+  unfolding filingHeld isSet historyOfSite
+  broken j l = ap (λ (b : ℕ). not (eqb b 0)) (by-year (historyOfSite t) (k .breaks) j l)
+
+  curve-marks : (j : ℕ) → j < h .count → isMark (getD curves j 0) ≡ curveValid F (h .first + j)
+  unfolding curveMarks curveMarkAt
+  curve-marks j l =
+      let y = h .first + j in
+      ap isMark (at-year 0 (curveMarkAt (t .al) (h .first) (w .near) (w .far) (k .breaks)) (h .count) j 0 l short)
+      ∙ mark-bit (validRow (rowOf (t .al) (w .near) (w .far) y) y (isSet (k .breaks) j))
+      ∙ ap (validRow (rowOf (t .al) (w .near) (w .far) y) y) (sym (broken j l))
+      ∙ sym (valid-is t n k true w y (in-history j l))
+
+  index-marks : (j : ℕ) → j < h .count → isMark (getD indexes j 0) ≡ indexValid F (h .first + j)
+  unfolding indexMarks indexMarkAt historyOfSite
+  index-marks j l =
+      ap isMark (at-year 0 (indexMarkAt ps ks n (k .breaks)) (h .count) j 0 l short)
+      ∙ mark-bit (validIndex ps ks n j (isSet (k .breaks) j))
+      ∙ sym (index-valid-held t n k true w (fit .columns) rise (fit .readings) j l)
+
+  pub cases : (j : ℕ) → j < h .count → meantCase (caseOfCode (getD codes j 0)) ≡ caseOf F (h .first + j)
+  unfolding historyOf filingHeld
+  cases j l = cases-are F curves indexes known curve-marks index-marks j l
+
+  default-marks : (j : ℕ) → j < h .count → isMark (getD defaults j 0) ≡ isDefault (caseOf F (h .first + j))
+  unfolding defaultMarks defaultMark
+  default-marks j l =
+      ap isMark (at-year 0 (λ i. defaultMark (getD codes i 0)) (h .count) j 0 l short)
+      ∙ mark-bit (isDefault (meantCase (caseOfCode (getD codes j 0))))
+      ∙ ap isDefault (cases j l)
+
+  -- the same as list marks
+  pub valid-set : (j : ℕ) → j < historyOfSite t .count → isSet indexes j ≡ indexValid F (historyOfSite t .first + j)
+  unfolding isSet isMark historyOfSite
+  valid-set j l = index-marks j l
+
+  pub default-set : (j : ℕ) → j < historyOfSite t .count → isSet defaults j ≡ isDefault (caseOf F (historyOfSite t .first + j))
+  unfolding isSet isMark historyOfSite
+  default-set j l = default-marks j l
+
+  -- ---- E and daily total around a winter day
+  around : (j v p : ℕ) → j < h .count → v < 152
+      → profiledIn F (intervalAt F (h .first + j) v) p ≡ byProfile (getD energies (positionIn j v) 0) p (getD totals (positionIn j v) 0)
+  unfolding profiledAt
+  around j v p l m =
+      let y = h .first + j in
+      any-profile F (intervalAt F y v) (F .profile y v 0) p (getD energies (positionIn j v) 0) (getD totals (positionIn j v) 0)
+      (rw (at-position j v) at (profiled-year t n k true w (fit .columns) (fit .readings) y v 0 (in-history j l) m))
+    where
+      at-position : (i u : ℕ) → positionAt F (h .first + i) u ≡ positionIn i u
+      at-position i u = unfold historyOf filingHeld in (position-is F known i u)
+
+  pub means : Means F energies totals curves indexes codes
+  unfolding historyOf filingHeld
+  means = record { known = known; around = around; curve-marks = curve-marks; index-marks = index-marks; cases = cases }

@@ -1,0 +1,47 @@
+use mathlib.Core.List.{[]}
+use borrow.Author.Needs.{needs}
+use borrow.Author.Tests.{not-true, not-false}
+use Rattle.meaning.specs.Blocks.{World}
+use Rattle.meaning.specs.Record.{Rec}
+use Rattle.readings.specs.Columns.{worldIn}
+use Rattle.progress.specs.ProgressViews.{recOf}
+use Rattle.close.proofs.Laws.{within, fits-not, fits-record, fits-all}
+use Rattle.close.proofs.stops.all_fit.Statement.{statement}
+use Rattle.close.proofs.stops.all_fit.Tie as tie
+
+-- the record and the blocks as they came
+abbrev came : tie.Start → Rec
+came a = recOf (a .args .state) (a .args .count) (a .args .progress)
+
+abbrev lent : tie.Start → World
+lent a = worldIn (a .args .near .now) (a .args .far .now) (a .args .slots .now) (a .args .daily .now) (a .args .columns .positions) (a .args .columns .indexes) (a .args .columns .kinds) []
+
+sizes-fit-requires : tie.Need-sizes-fit-requires
+sizes-fit-requires c κs = search needs
+
+record-fits-requires : tie.Need-record-fits-requires
+record-fits-requires c κs = search needs
+
+both-requires : tie.Need-both-requires
+both-requires c κs = search needs
+
+returns : tie.Need-returns
+returns c =
+    let a = c .before .before .before .before .before .before .before .before in
+    fits-not (came a) (a .args .readings) (a .args .curve) (lent a) _ _ _ (c .before .before .before .sizes-fit .ensures) (c .before .before .record-fits .ensures) (c .before .both .ensures) (not-true _ (c .if1 .taken))
+
+blocks-fit-requires : tie.Need-blocks-fit-requires
+blocks-fit-requires c κs =
+    let a = c .before .before .before .before .before .before .before .before in
+    within (came a)
+    (fits-record (came a) (a .args .readings) (a .args .curve) (lent a) _ _ _ (c .before .before .before .sizes-fit .ensures) (c .before .before .record-fits .ensures) (c .before .both .ensures) (not-false _ (c .if1 .left)))
+
+returns-2 : tie.Need-returns-2
+returns-2 c =
+    let e = c .before in
+    let a = e .before .before .before .before .before .before .before .before in
+    fits-all (came a) (a .args .readings) (a .args .curve) (lent a) _ _ _ (e .before .before .before .sizes-fit .ensures) (e .before .before .record-fits .ensures) (e .before .both .ensures) (not-false _ (e .if1 .left))
+    _ (c .blocks-fit .ensures (a .args .state) (a .args .count))
+
+pub all-fit-spec : {M : Type 1} → statement M
+all-fit-spec = tie.close (tie.spec sizes-fit-requires record-fits-requires both-requires returns blocks-fit-requires returns-2)

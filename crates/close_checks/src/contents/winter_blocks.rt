@@ -1,0 +1,52 @@
+// What 1 asks at the close of the points: at a date of the history what C can give, elsewhere missing.
+ghost use mathlib.Core.Path.{_≡_};
+ghost use Prim.Native.Nat.{_+_, _≤_, min};
+ghost use Rattle.meaning.specs.Record.{pointsFit};
+ghost use Rattle.close_checks.specs.Winter.{datedAt};
+use crate::day_contents::points_on_day;
+use calendar::Years;
+
+// 152 winter places of 20 half-hours.
+const ROW: usize = 3040;
+
+const HALF_HOURS: usize = 20;
+
+// Whether a place in rows of winter dates has a date of the history: the first row is that of the year first.
+pub(crate) fn is_dated(history: Years, first: u64, place: usize) -> bool
+    requires { ⌜ first ≤ 9999 ⌝ }
+    ensures { λ r. ⌜ r ≡ datedAt history first place ⌝ }
+{
+    let year = first + (place / ROW) as u64;
+    if !calendar::is_among(history, year) {
+        return false;
+    }
+    calendar::has_winter_date(year, place % ROW / HALF_HOURS)
+}
+
+// Where the day that begins at a place ends, in a block of a length.
+pub(crate) fn day_end(place: usize, length: usize) -> usize
+    requires { ⌜ place ≤ length ⌝ }
+    ensures { λ r. ⌜ r ≡ min (place + 20) length ⌝ }
+{
+    if length - place < HALF_HOURS {
+        return length;
+    }
+    place + HALF_HOURS
+}
+
+// The near block where the first row is that of AL-9, the far block where it is that of AL-14. A day's date is looked up once.
+pub(crate) fn points_fit(block: &[u32], first: u64, history: Years) -> bool
+    requires { ⌜ first ≤ 9999 ⌝ }
+    ensures { λ r. ⌜ r ≡ pointsFit history first (now (block .entry)) ⌝ }
+{
+    let mut i = 0;
+    while i < block.len() {
+        let dated = is_dated(history, first, i);
+        let e = day_end(i, block.len());
+        if !points_on_day(&block[i..e], dated) {
+            return false;
+        }
+        i += HALF_HOURS;
+    }
+    true
+}

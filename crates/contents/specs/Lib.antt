@@ -1,3 +1,0 @@
-pub mod Contents
-pub mod Winter
-pub mod Axis

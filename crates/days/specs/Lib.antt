@@ -1,3 +1,0 @@
-pub mod Dates
-pub mod Places
-pub mod Words

@@ -1,3 +1,0 @@
-pub mod Stops
-pub mod Closes
-pub mod Rows

@@ -1,4 +1,0 @@
-pub mod Table
-pub mod Annual
-pub mod Factors
-pub mod History

@@ -1,3 +1,0 @@
-// The factors of the operators' note: CA, theta and C by filière.
-pub mod coefficients;
-mod tables;

@@ -1,0 +1,2 @@
+pub mod ReadingStops
+pub mod HandedOut

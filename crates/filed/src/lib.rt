@@ -1,5 +1,0 @@
-// A run over the input of a file descriptor, read in pieces.
-mod reading;
-
-pub use ends::write;
-pub use reading::run;

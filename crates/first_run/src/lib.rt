@@ -1,4 +1,0 @@
-// A run at its start.
-mod opened;
-
-pub use opened::begin;

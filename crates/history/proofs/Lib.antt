@@ -1,0 +1,2 @@
+pub mod CaseMarks
+pub mod Ten

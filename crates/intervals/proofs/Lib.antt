@@ -1,6 +1,0 @@
-pub mod Winter
-pub mod Filed
-pub mod Valid
-pub mod Totals
-pub mod Bounds
-pub mod Fills

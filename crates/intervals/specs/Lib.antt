@@ -1,4 +1,0 @@
-pub mod Columns
-pub mod Index
-pub mod Days
-pub mod Steps

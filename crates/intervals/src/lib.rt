@@ -1,4 +1,0 @@
-// What a close needs of the readings, which come as columns of positions on the axis, indexes and kinds.
-pub mod columns; // a reading of the columns, and the winter of a year
-pub mod index; // whether a year's index is valid
-pub mod days; // what the interval around each day says

@@ -1,2 +1,0 @@
-pub mod PartialYears
-pub mod Lacking

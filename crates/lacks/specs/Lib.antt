@@ -1,3 +1,0 @@
-pub mod Closing
-pub mod Totals
-pub mod Stops

@@ -1,0 +1,5 @@
+pub mod Judged
+pub mod ByTag
+pub mod Chain
+pub mod Records
+pub mod Dates

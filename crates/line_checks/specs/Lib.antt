@@ -1,0 +1,4 @@
+pub mod Answers
+pub mod Before
+pub mod Order
+pub mod Places

@@ -1,0 +1,11 @@
+pub mod Forms
+pub mod LetterLaws
+pub mod Readers
+pub mod Capped
+pub mod Checks
+pub mod Shaped
+pub mod Told
+pub mod Read
+pub mod TagLaws
+pub mod Rows
+pub mod ValueChecks

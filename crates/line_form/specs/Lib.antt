@@ -1,0 +1,10 @@
+pub mod Views
+pub mod Reads
+pub mod Ranges
+pub mod Shapes
+pub mod Fields
+pub mod Tags
+pub mod Codes
+pub mod ValueReads
+pub mod ValueRanges
+pub mod Rows

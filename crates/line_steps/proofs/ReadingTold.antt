@@ -1,0 +1,53 @@
+-- What the answer of a judge tells of a D or an X line.
+use mathlib.Core.Path.{_≡_, refl}
+use mathlib.Core.Option.{none}
+use Rattle.calendar.specs.declared.Years.{Years}
+use Rattle.calendar.specs.Spans.{historyYears, axisYears}
+use Rattle.text.specs.Fields.{fieldAt}
+use Rattle.meaning.specs.Line.{Line, X, D, yearOn, numberAt, kindOf, keyOf}
+use Rattle.meaning.specs.Refusals.{refusal}
+use Rattle.meaning.specs.Blocks.{letterOfKind}
+use Rattle.meaning.specs.Record.{Rec, axisOfRec, beforeOf}
+use Rattle.meaning.specs.Calls.{positionOn}
+use Rattle.line_checks.specs.Order.{numberBy}
+use Rattle.line_checks.specs.Before.{Known, beforeRising, beforeReading}
+use Rattle.line_checks.proofs.Chain.{no-refusal}
+use Rattle.line_checks.proofs.Records.{before-D, before-X}
+use Rattle.line_steps.specs.ReadingAnswers.{readingJudged, dailyJudged}
+use Rattle.line_steps.specs.declared.readings_and_sums.judging.ReadingJudged.{ReadingJudged}
+use Rattle.line_steps.specs.declared.readings_and_sums.judging.DailyJudged.{DailyJudged}
+use Rattle.progress.proofs.Rows.{Row}
+use Rattle.progress.proofs.Changed.{daily-row, daily-axis, position-D, position-X}
+
+-- ---- D
+module _ (s : Rec) (l : Line) (k : Known D l) (j : DailyJudged)
+    (e : j ≡ dailyJudged (refusal (beforeRising (s .last) (historyYears (s .site .al) (s .site .filiere)) (s .lasts .d)) l) (historyYears (s .site .al) (s .site .filiere)) l) where
+  pub daily-number : j .number ≡ numberBy (refusal (beforeOf s) l)
+  unfolding dailyJudged
+  daily-number = rw (e, before-D s l (k .tag))
+
+  pub daily-none : j .number ≡ 0 → refusal (beforeOf s) l ≡ none
+  daily-none n = no-refusal (refusal (beforeOf s) l) (j .number) daily-number n
+
+  pub daily-say : j .number ≡ 0 → (j .year ≡ yearOn l) × (j .position ≡ positionOn (axisOfRec s) l) × (j .sum ≡ numberAt l 4) × (j .key ≡ keyOf D l)
+  unfolding dailyJudged
+  daily-say n = rw (e, ← before-D s l (k .tag), daily-none n) (refl, position-D s l (daily-none n) (k .tag), refl, refl)
+
+  pub daily-year-place : j .number ≡ 0 → (a : Years) → a ≡ axisYears (historyYears (s .site .al) (s .site .filiere)) → Row (a .first) (j .year) 12
+  daily-year-place n a q =
+      let f = daily-none n in
+      rw (q, daily-axis s l f (k .tag), daily-say n .0) (daily-row s l f (k .tag))
+
+-- ---- X
+module _ (s : Rec) (l : Line) (k : Known X l) (j : ReadingJudged)
+    (e : j ≡ readingJudged (refusal (beforeReading (s .last) (historyYears (s .site .al) (s .site .filiere)) (s .lasts .x) (s .lastIndex) (s .readings)) l) (historyYears (s .site .al) (s .site .filiere)) l) where
+  pub reading-number : j .number ≡ numberBy (refusal (beforeOf s) l)
+  unfolding readingJudged
+  reading-number = rw (e, before-X s l (k .tag))
+
+  pub reading-none : j .number ≡ 0 → refusal (beforeOf s) l ≡ none
+  reading-none n = no-refusal (refusal (beforeOf s) l) (j .number) reading-number n
+
+  pub reading-say : j .number ≡ 0 → (j .position ≡ positionOn (axisOfRec s) l) × (j .index ≡ numberAt l 4) × (j .kind ≡ letterOfKind (kindOf (fieldAt l 5))) × (j .key ≡ keyOf X l)
+  unfolding readingJudged
+  reading-say n = rw (e, ← before-X s l (k .tag), reading-none n) (position-X s l (reading-none n) (k .tag), refl, refl, refl)

@@ -1,0 +1,12 @@
+-- 4 of C, and the place and the key of a date, as `date_keys` has them.
+use mathlib.Core.Bool.{Bool, _||_}
+use Prim.Native.Nat.{ℕ}
+use Rattle.meaning.specs.Filing.{Meter}
+use Rattle.meaning.specs.File.{isIndexMeter}
+use Rattle.line_checks.specs.Order.{isLate}
+unfoldable pub use Rattle.line_checks.specs.Places.{keyFor}
+pub use Rattle.line_checks.specs.Places.{placeOr}
+
+-- 4 of C: out of order, or in an I file
+unfoldable pub pointsLate : ℕ → Meter → Bool
+pointsLate last m = isLate last 2 || isIndexMeter m

@@ -1,0 +1,4 @@
+pub mod Opened
+pub mod Filled
+pub mod Dispatch
+pub mod Calls

@@ -1,0 +1,46 @@
+// Opening, on the lent blocks: all fresh where each has its size, else as they were.
+mod fills; // blocks filled with one value
+
+use crate::opening::fills::fill_u16;
+use crate::opening::fills::fill_u32;
+use crate::opening::fills::fill_u64;
+use answers::sizes_fit;
+ghost use Rattle.readings.specs.Lent.{EachList};
+ghost use Rattle.readings.specs.Readings.{seen, freshened};
+ghost use Rattle.readings.specs.Columns.{world};
+ghost use Rattle.open_and_line.specs.Opens.{Opens};
+
+// A missing point, and a missing entry of the curve.
+const NO_POINT: u32 = 4_294_967_295;
+
+const NO_ENTRY: u64 = 18_446_744_073_709_551_615;
+
+// Whether the blocks have their sizes. The caller makes the readings fresh, of which it tells how many they are.
+pub fn open_blocks(
+    near: &mut [u32],
+    far: &mut [u32],
+    slots: &mut [u16],
+    daily: &mut [u32],
+    readings: usize,
+    curve: &mut [u64],
+) -> bool
+    ensures { λ r. ⌜ EachList readings (λ rs. Opens r (world (now (near .entry)) (now (far .entry)) (now (slots .entry)) (now (daily .entry)) (seen rs) (now (curve .entry))) (world (now (near .exit)) (now (far .exit)) (now (slots .exit)) (now (daily .exit)) (seen (freshened r rs)) (now (curve .exit)))) ⌝ }
+{
+    let fit = sizes_fit(
+        near.len(),
+        far.len(),
+        slots.len(),
+        daily.len(),
+        readings,
+        curve.len(),
+    );
+    if !fit {
+        return false;
+    }
+    fill_u32(near, NO_POINT);
+    fill_u32(far, NO_POINT);
+    fill_u16(slots, 0);
+    fill_u32(daily, 0);
+    fill_u64(curve, NO_ENTRY);
+    true
+}

@@ -1,3 +1,0 @@
-pub mod Filled
-pub mod Given
-pub mod Fits

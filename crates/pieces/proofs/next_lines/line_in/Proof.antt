@@ -1,0 +1,30 @@
+use borrow.Author.Needs.{needs}
+use Rattle.pieces.proofs.Laws.{part-is}
+use Rattle.pieces.proofs.next_lines.line_in.Statement.{statement}
+use Rattle.pieces.proofs.next_lines.line_in.Tie as tie
+use Rattle.pieces.proofs.next_lines.line_in.Reads as reads
+use Rattle.pieces.proofs.next_lines.line_in.Lts as lts
+use Rattle.pieces.proofs.begun.least.Reads as least-reads
+
+least-requires : tie.Need-least-requires
+least-requires c κs = search needs
+
+least-requires-2 : tie.Need-least-requires-2
+least-requires-2 c κs = search needs
+
+sub-result : tie.Need-sub-result
+sub-result c = search needs
+
+part-result-start : tie.Need-part-result-start
+part-result-start c = search needs
+
+part-result-end : tie.Need-part-result-end
+part-result-end c = search needs
+
+returns : tie.Need-returns
+returns c = part-is _ _ _ _ _ (c .before .before .least .ensures) (c .before .least2 .ensures)
+
+pub line-in-spec : {M : Type 1} → statement M
+line-in-spec =
+    tie.close
+    (tie.spec least-requires least-requires-2 sub-result part-result-start part-result-end returns)

@@ -1,0 +1,49 @@
+// The line begun: where it ends in a piece, and when it is whole.
+ghost use mathlib.Core.Path.{_≡_};
+ghost use mathlib.Core.Bool.{_&&_, _||_, not};
+ghost use Prim.Native.Nat.{min};
+ghost use lib.Dec.{ltb};
+ghost use Rattle.pieces.specs.Parts.{endAt};
+
+// A line is refused at its 321st byte, so it is whole by then.
+const ROOM: usize = 321;
+
+// How many bytes stand before the first byte 10.
+pub(crate) fn end(text: &[u8]) -> usize
+    ensures { λ r. ⌜ r ≡ endAt (now (text .entry)) ⌝ }
+{
+    let mut i = 0;
+    while i < text.len() {
+        if text[i] == 10 {
+            return i;
+        }
+        i += 1;
+    }
+    i
+}
+
+pub fn least(a: usize, b: usize) -> usize
+    ensures { λ r. ⌜ r ≡ min a b ⌝ }
+{
+    if a < b { a } else { b }
+}
+
+// A line that has its byte 10 or its 321st byte is whole.
+pub(crate) fn is_whole(ended: bool, bytes: usize) -> bool
+    ensures { λ r. ⌜ r ≡ (ended || ltb 320 bytes) ⌝ }
+{
+    if ended {
+        return true;
+    }
+    ROOM <= bytes
+}
+
+// Whether a run that ends has a last line to give, one that lacks its byte 10.
+pub fn is_begun(answered: bool, held: usize) -> bool
+    ensures { λ r. ⌜ r ≡ (not answered && ltb 0 held) ⌝ }
+{
+    if answered {
+        return false;
+    }
+    0 < held
+}

@@ -1,0 +1,56 @@
+// The line begun: its bytes, which are held from piece to piece.
+use crate::begun::end;
+use crate::begun::is_whole;
+use crate::begun::least;
+ghost use mathlib.Core.Path.{_≡_};
+ghost use Prim.Native.Nat.{_-_, min};
+ghost use Rattle.text.specs.Written.{written};
+ghost use Rattle.pieces.specs.Joined.{joinedOf};
+
+pub struct Joined {
+    pub line: [u8; 321],
+    // how many bytes the line has, and how many of the piece it takes, its byte 10 included
+    pub bytes: usize,
+    pub used: usize,
+    // whether it is to be given
+    pub whole: bool,
+}
+
+// A line is refused at its 321st byte, so no more are held.
+const ROOM: usize = 321;
+
+// How many of the bytes left a line can take that has some already.
+fn room(held: usize, left: usize) -> usize
+    ensures { λ r. ⌜ r ≡ min (321 - held) left ⌝ }
+{
+    if ROOM < held {
+        return 0;
+    }
+    least(ROOM - held, left)
+}
+
+// The bytes held, with a part's after them.
+pub fn appended(mut line: [u8; 321], held: usize, part: &[u8]) -> [u8; 321]
+    ensures { λ r. ⌜ r ≡ written line held (now (part .entry)) ⌝ }
+{
+    text::put_text(part, &mut line, held);
+    line
+}
+
+// The line begun, with the bytes after it that a piece has of it.
+pub fn join(line: [u8; 321], held: usize, piece: &[u8]) -> Joined
+    ensures { λ r. ⌜ r ≡ joinedOf line held (now (piece .entry)) ⌝ }
+{
+    let k = least(held, 320);
+    let limit = room(k, piece.len());
+    let e = end(&piece[..limit]);
+    let more = appended(line, k, &piece[..e]);
+    let bytes = k + e;
+    let used = least(e + 1, limit);
+    Joined {
+        line: more,
+        bytes,
+        used,
+        whole: is_whole(e < limit, bytes),
+    }
+}

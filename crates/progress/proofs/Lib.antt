@@ -1,0 +1,10 @@
+pub mod Steps
+pub mod Rows
+pub mod Taken
+pub mod Codes
+pub mod Changed
+pub mod Calls
+pub mod Spans
+pub mod Walks
+pub mod Zero
+pub mod Given

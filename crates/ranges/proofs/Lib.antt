@@ -1,3 +1,0 @@
-pub mod Spans
-pub mod Walks
-pub mod Zero

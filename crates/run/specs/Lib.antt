@@ -1,0 +1,3 @@
+pub mod RunViews
+pub mod FeedViews
+pub mod Ended

@@ -1,0 +1,25 @@
+// A refusal's line of the sheet, and a tabbed number, into lent bytes (document 01, The printed sheet).
+ghost use Prim.Native.Nat.{_+_, _≤_};
+ghost use lib.ListN.{length};
+ghost use Rattle.meaning.specs.Text.{tabbed, refusalLine};
+ghost use Rattle.sheet.specs.Put.{Put};
+
+// A tab and a number.
+pub(crate) fn put_tabbed(n: u64, out: &mut [u8], at: usize) -> usize
+    requires { ⌜ at + 21 ≤ length (now out) ⌝ }
+    ensures { λ r. ⌜ Put (now (out .entry)) (now (out .exit)) at r (tabbed n) ⌝ }
+{
+    let a = text::put_byte(9, out, at);
+    text::put_number(n, out, a)
+}
+
+// Z, number, count.
+pub(crate) fn put_refusal(number: u64, count: u64, out: &mut [u8], at: usize) -> usize
+    requires { ⌜ at + 44 ≤ length (now out) ⌝ }
+    ensures { λ r. ⌜ Put (now (out .entry)) (now (out .exit)) at r (refusalLine number count) ⌝ }
+{
+    let a = text::put_byte(90, out, at);
+    let b = put_tabbed(number, out, a);
+    let c = put_tabbed(count, out, b);
+    text::put_byte(10, out, c)
+}

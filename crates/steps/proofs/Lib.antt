@@ -1,6 +1,0 @@
-pub mod Steps
-pub mod Rows
-pub mod Taken
-pub mod Codes
-pub mod Changed
-pub mod Calls

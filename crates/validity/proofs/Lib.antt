@@ -1,0 +1,10 @@
+pub mod Parts
+pub mod Days
+pub mod Filings
+pub mod Trust
+pub mod Winter
+pub mod Filed
+pub mod Valid
+pub mod Totals
+pub mod Bounds
+pub mod Fills

@@ -1,0 +1,7 @@
+pub mod Rows
+pub mod Availability
+pub mod Columns
+pub mod Index
+pub mod Days
+pub mod Steps
+pub mod Dates

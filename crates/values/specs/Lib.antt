@@ -1,4 +1,0 @@
-pub mod Codes
-pub mod Reads
-pub mod Ranges
-pub mod Rows

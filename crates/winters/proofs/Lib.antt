@@ -1,2 +1,0 @@
-pub mod Trust
-pub mod Winter

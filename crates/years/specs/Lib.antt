@@ -1,2 +1,0 @@
-pub mod Years
-pub mod Fits
