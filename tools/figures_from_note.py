@@ -1,5 +1,5 @@
 #!/usr/bin/env python3
-"""figures_from_note.py NOTE: the figures of the operators' note, read from its text, in the form that the program `figures` writes.
+"""figures_from_note.py NOTE: the figures of the operators' note, read from its text, in the form that the program `test_figures` writes.
 
 Tables are found by their headings, their columns and rows by name. The filières' numbers are document 01's.
 """

@@ -1,5 +1,5 @@
 #!/usr/bin/env python3
-"""Fills crates/filings from folders of NAME.filing and NAME.sheet: data/ and args hold the filings, stdout what the sheets say.
+"""Fills crates/test_filings from folders of NAME.filing and NAME.sheet: data/ and args hold the filings, stdout what the sheets say.
 
 The sheets come from readings of the rules that share nothing with the code. Usage: tools/filings_from_sheets.py FOLDER...
 """
@@ -7,7 +7,7 @@ import pathlib
 import shutil
 import sys
 
-CRATE = pathlib.Path(__file__).resolve().parent.parent / "crates" / "filings"
+CRATE = pathlib.Path(__file__).resolve().parent.parent / "crates" / "test_filings"
 
 
 def main() -> None:

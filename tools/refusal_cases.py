@@ -1,5 +1,5 @@
 #!/usr/bin/env python3
-"""refusal_cases.py OUT: writes the cases of the program `refusals` as OUT/stdin and what document 01 says of each as OUT/stdout.
+"""refusal_cases.py OUT: writes the cases of the program `test_refusals` as OUT/stdin and what document 01 says of each as OUT/stdout.
 
 A case is a list of lines; after it stands a line with the sign = alone. The program starts with a record that was never opened and gives it
 the lines in order, whatever was refused before. For each refused line it writes the number and the count of the refusal. At = it writes =

@@ -1,7 +1,7 @@
 #!/usr/bin/env python3
 """reading.py < FILING: the sheet of a filing, by a plain reading of document 01 that shares nothing with the engine.
 
-Slow and short, in fractions, a file kept as lists and dictionaries. The note's figures are those that crates/figures/stdout has from its text.
+Slow and short, in fractions, a file kept as lists and dictionaries. The note's figures are those that crates/test_figures/stdout has from its text.
 Beside the sheet it holds the level to the bound of demand 3: it stops where one is further from the exact fraction of its file.
 """
 import bisect
@@ -11,7 +11,7 @@ import pathlib
 import sys
 from fractions import Fraction
 
-FIGURES = pathlib.Path(__file__).resolve().parents[2] / "crates" / "figures" / "stdout"
+FIGURES = pathlib.Path(__file__).resolve().parents[2] / "crates" / "test_figures" / "stdout"
 FIELDS = {"S": 6, "C": 24, "X": 6, "D": 5, "P": 24, "B": 2, "R": 3, "E": 2}
 ORDER = "SCXDPBRE"
 WINTER = (1, 2, 3, 11, 12)

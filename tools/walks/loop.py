@@ -99,7 +99,7 @@ def main():
     w('  abbrev Has : State → List (Item 𝓤) → List (Item 𝓤)'); w('  Has i Γ = %s ∷ Γ'%' ∷ '.join([tok(p[0]) for p in refs]+owns('i'))); w('')
     lab=['t:'+p[0] for p in refs]+['o:'+p[0] for p in refs]
     # ---- the exit
-    w('  exits : (i : State) → i .state .%s ≡ false → ent 𝓤 (⋆ 𝓤 H A (Has i [])) (Post %s)'%(D['test'],val(S,'(i .state)')))
+    w('  exits : (i : State) → %s ≡ false → ent 𝓤 (⋆ 𝓤 H A (Has i [])) (Post %s)'%(D['test']('(i .state)'),val(S,'(i .state)')))
     x=Ctx(); x.l=list(lab); s=['qed W (Has i []) ∵\n      ']
     s.append('suffices ! _ (ends-at 𝓤 H A f.ended stayed (f.clauses 𝓤 H A mem run) W %s _ (i .state) %s %s) $ says ! %s $\n      '%(y,tup(['tt']+['i .%s′'%p[0] if p[1]=='mut' else 'tt' for p in refs]),tup(['tt']+['i .l-%s'%p[0] if p[1]=='mut' else 'tt' for p in refs]),D['says']))
     s.append('nothing ! $'); x.push('tok')
@@ -154,7 +154,7 @@ def main():
     nx=['r','w']+[p[0]+'″' for p in muts]
     said=D['said']('(i .state)','r',lambda p:'(i .%s′)'%p,lambda p:p+'″')
     w('  -- the state after a call')
-    nb='(i : State) (r : %s) (w : Val) %s → Is %s.the-row r (w ∷ []) → i .state .%s ≡ true → %s → %s'%(T[S]['decl'],' '.join('(%s″ : List %s)'%(p[0],elemD(p[2])) for p in muts),S,D['test'],said,' → '.join('length %s″ ≡ length (i .%s′)'%(p[0],p[0]) for p in muts))
+    nb='(i : State) (r : %s) (w : Val) %s → Is %s.the-row r (w ∷ []) → %s ≡ true → %s → %s'%(T[S]['decl'],' '.join('(%s″ : List %s)'%(p[0],elemD(p[2])) for p in muts),S,D['test']('(i .state)'),said,' → '.join('length %s″ ≡ length (i .%s′)'%(p[0],p[0]) for p in muts))
     w('  abbrev then : %s → State'%nb)
     w('  then i r w %s is e said %s = record {'%(' '.join(p[0]+'″' for p in muts),' '.join('l-'+p[0] for p in muts)))
     w('    state = r;'); 
@@ -186,7 +186,7 @@ def main():
         x.push('pre'); q=['nothing ! $ use1 W (raw (%s 𝓤 H A mem run .pre (to-%s i))) (goes-%s i) $'%(Q['Name'],Q['al'],Q['al'])]
         q.append('calls-at ! (fmOf 𝓤 H (W .laws) 𝓣) (%s 𝓤 H A mem run) known-%s (to-%s i) (and-then ! (%s) (no-more !)) (λ w.\n       '%(Q['Name'],Q['al'],Q['al'],ld(sl))); x.pop()
         q.append('use1 W (later (some (λ (r : Bool). ((‵ ftrue) ⊛ ‵ (bool .own r (w ∷ []))) ⊛ raw (ensured 𝓤 H A %s.ended (%s.clauses 𝓤 H A mem run) tt (i .state, tt) tt r)))) (id⊢ 𝓤 _) $ await ! tt $ pick ! (λ r.\n       '%(Q['al'],Q['al']))
-        says='r ≡ i .state .%s'%D['test']
+        says='r ≡ %s'%D['test']('(i .state)')
         q.append('split ! $ move ! (1 ∷ []) $ use1 W (some (λ (ms : Unit {0} × Unit {0}). ‵ (lasts %s.ended tt (i .state, tt) ms) ⊛ raw (fact 𝓤 (%s)))) (id⊢ 𝓤 _) $ pick ! (λ ms.\n       '%(Q['al'],says))
         q.append('split ! $ move ! (1 ∷ []) $ heard ! (%s) (λ e. fsplit ! $ drop ! $ drop ! $ split ! $ move ! (1 ∷ []) $'%says); x.push('res','true')
         q.append('peeks ! bool (Is bool) (shows 𝓤 H A bool) r (w ∷ []) (λ is. land ! (from ! (stop !)) (init ! %d refl (bool-lawful 𝓤 H A W .typed r _ is .0)) $ drop ! $ drop ! $'%x.i('_%d'%tl)); x.pop(2)
@@ -194,7 +194,7 @@ def main():
         return ' '.join(q)
     def ld(k): return 'load ! (from ! (stop !)) (look ! %d refl)'%x.i('_%d'%k)
     # ---- a turn that calls, in lemmas over contexts written out: they are checked much faster than one long walk
-    bound=[('i','State','i'),('e','i .state .%s ≡ true'%D['test'],'e')]; lemmas=[]; s=[]; npar=0
+    bound=[('i','State','i'),('e','%s ≡ true'%D['test']('(i .state)'),'e')]; lemmas=[]; s=[]; npar=0
     now=dict(cell)
     def item(z):
         k,p=(z.split(':')+[''])[:2]; q=dict((r[0],r) for r in refs).get(p)
@@ -278,7 +278,7 @@ def main():
         if name=='calls': w('    unfolding Locals')
         if name=='lands': w('    unfolding Locals afterTurn')
         w('    %s %s =\n        %s'%(name,bn,texts[k+1])); w('')
-    w('    more : (i : State) → i .state .%s ≡ true → Sq W (Tested i true) %s'%(D['test'],REST))
+    w('    more : (i : State) → %s ≡ true → Sq W (Tested i true) %s'%(D['test']('(i .state)'),REST))
     w('    unfolding Locals'); w('    more i e =\n        '+texts[0]); w('')
     # ---- the turn that leaves the loop
     x=Ctx(); x.l=list(base); s=['leaves-loop ! (%s) $ exec ! C Λ En pieces.t-3 (atRet En Post) $\n       '%ld(tl)]
@@ -286,11 +286,11 @@ def main():
     s.append(x.keep(order+lab)); s.append('left i e')
     fullv=dict(cell); fullv[0]=val(S,'(i .state)'); fullv[tl]='(vbool false)'
     cx=''.join(('full %s l%s %s ('%(lty[k],sub(k),fullv[k])) if k in fullv else 'bare %s l%s ('%(lty[k],sub(k)) for k in range(nloc))+'Has i []'+')'*nloc
-    w('    left : (i : State) → i .state .%s ≡ false → Sq W (%s) (frees En (prop (Post %s)))'%(D['test'],cx,val(S,'(i .state)')))
+    w('    left : (i : State) → %s ≡ false → Sq W (%s) (frees En (prop (Post %s)))'%(D['test']('(i .state)'),cx,val(S,'(i .state)')))
     w('    left i e =\n        %s free0 ! $ by ! (exits i e)'%' '.join('gone ! $' if k in fullv else 'free1 ! $' for k in range(nloc))); w('')
-    w('    ends : (i : State) → i .state .%s ≡ false → Sq W (Tested i false) %s'%(D['test'],REST))
+    w('    ends : (i : State) → %s ≡ false → Sq W (Tested i false) %s'%(D['test']('(i .state)'),REST))
     w('    unfolding afterTurn'); w('    ends i e =\n        '+' '.join(z for z in s if z)); w('')
-    w('    at-test : (i : State) (z : Bool) → i .state .%s ≡ z → Sq W (Tested i z) %s'%(D['test'],REST))
+    w('    at-test : (i : State) (z : Bool) → %s ≡ z → Sq W (Tested i z) %s'%(D['test']('(i .state)'),REST))
     w('    at-test i true e = more i e'); w('    at-test i false e = ends i e'); w('')
     w('    turns : (i : State) → Sq W (At i) (runs C Λ En pieces.turn-1 (anyQ (Turned i)))'); x=Ctx(); x.l=list(base); w('    turns i =\n        %s at-test i r (sym e))))))'%test()); w('')
     # ---- the walk up to the loop

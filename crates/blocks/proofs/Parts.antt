@@ -1,13 +1,13 @@
 -- Laws of a row as a part of its block, and of the tests that pick it.
-use mathlib.Core.Path.{_≡_, refl, sym, _∙_}
-use mathlib.Core.Bool.{Bool, true, false, _&&_}
+use mathlib.Core.Path.{_≡_, sym, _∙_}
+use mathlib.Core.Bool.{_&&_}
 use mathlib.Core.List.{List, []}
 use Prim.Native.Nat.{ℕ, _-_, _≤_, _<_}
 use native.Mathlib.Omega.{arith}
 use lib.Dec.{T, leb, leb→le}
 use lib.ListN.{length, take, drop, length-drop, drop-of-length-le}
 use lib.Seq.{take-all, take-length}
-use borrow.Author.Tests.{eqb-false}
+use Rattle.lists.proofs.Tests.{and-parts}
 use Rattle.meaning.specs.Blocks.{rowSize}
 use Rattle.blocks.specs.Rows.{holdsYear, part}
 
@@ -23,10 +23,6 @@ part-short xs a h =
     rw (← length-drop a xs) (take-length (drop a xs))
     ∙ sym (take-all rowSize (drop a xs) (rw (length-drop a xs) (omega arith)))
 
-both : (a b : Bool) → T (a && b) → T a × T b
-both true b t = (tt, t)
-both false b t = absurd t
-
 -- what the test of a year says
 pub record Held (al y : ℕ) : Type 0 where
   pub first : 2021 ≤ al
@@ -37,11 +33,7 @@ pub record Held (al y : ℕ) : Type 0 where
 pub held : (al y : ℕ) → T (holdsYear al y) → Held al y
 unfolding holdsYear
 held al y t =
-    let p = both (leb 2021 al && leb al 2026) (leb (al - 14) y && leb y (al - 5)) t in
-    let q = both (leb 2021 al) (leb al 2026) (p .0) in
-    let r = both (leb (al - 14) y) (leb y (al - 5)) (p .1) in
+    let p = and-parts (leb 2021 al && leb al 2026) (leb (al - 14) y && leb y (al - 5)) t in
+    let q = and-parts (leb 2021 al) (leb al 2026) (p .0) in
+    let r = and-parts (leb (al - 14) y) (leb y (al - 5)) (p .1) in
     record { first = leb→le _ _ (q .0); last = leb→le _ _ (q .1); from = leb→le _ _ (r .0); to = leb→le _ _ (r .1) }
-
-pub truth : (b : Bool) → b ≡ true → T b
-truth true e = tt
-truth false e = absurd (eqb-false 0 1 refl (let z : _≡_ {A = ℕ} 0 1 = cc in z))

@@ -4,8 +4,6 @@ use Prim.Native.Nat.{ℕ, _+_, min}
 use lib.Seq.{sets}
 use Rattle.meaning.specs.Line.{mostProfile}
 use Rattle.meaning.specs.Blocks.{slotsStart, slotAt}
-unfoldable pub use Rattle.blocks.specs.PointStores.{pointCode, nearPut, farPut}
-pub use Rattle.blocks.specs.PointStores.{RowPlace}
 
 unfoldable pub profileCode : ℕ → ℕ
 profileCode v = min v mostProfile

@@ -9,7 +9,7 @@ use native.Mathlib.Omega.{arith}
 use lib.Dec.{T, leb}
 use borrow.Author.Tests.{eq-eqb, ne-eqb}
 use Rattle.lists.specs.Lists.{firstOf}
-use Rattle.lists.proofs.Tables.{and-parts}
+use Rattle.lists.proofs.Tests.{and-parts}
 use Rattle.calendar.specs.Spans.{isKnown, axisYears}
 use Rattle.meaning.specs.Filing.{Site, Filing}
 use Rattle.meaning.specs.Refusals.{isTooSoon, mostReadings}

@@ -7,14 +7,13 @@ use Prim.Native.Nat.{ℕ, _+_, _-_, _/_, _%_, _≤_, _<_}
 use native.Mathlib.Omega.{arith}
 use lib.Dec.{T, eqb, leb, ltb, eqb→eq, leb→le}
 use lib.ListN.{length, getD}
-use borrow.Author.Tests.{le-leb, ltb-false}
-use Rattle.lists.proofs.Tables.{and-parts, and-made}
+use Rattle.points.specs.OwnFits.{isPoint}
 use Rattle.lists.proofs.AllAt.{allAt-read}
+use Rattle.lists.proofs.Tests.{and-parts, and-made}
 use Rattle.calendar.specs.declared.Years.{Years}
 use Rattle.calendar.specs.Spans.{among, isKnown, historyYears, axisYears}
 use Rattle.calendar.proofs.Laws.{among-words, history-short}
 use Rattle.meaning.specs.Filing.{Site, Filing, historyOf}
-use Rattle.meaning.specs.Refusals.{isTooSoon}
 use Rattle.meaning.specs.Line.{mostPower}
 use Rattle.meaning.specs.Validity.{Interval, curveValid, indexValid}
 use Rattle.meaning.specs.Cases.{isDefault, caseOf}
@@ -22,7 +21,8 @@ use Rattle.meaning.specs.Points.{Origin, asRead, byProfile, profiledIn, profile
 use Rattle.meaning.specs.Closing.{allWinterDates, allDates}
 use Rattle.meaning.specs.Blocks.{World, missingPoint, rowSize, pointsSize, slotsSize, dailySize, readingsSize, curveSize, sizesFit}
 use Rattle.meaning.specs.Record.{Tallies, historyOfSite, isWithin, siteFits, eachYear, talliesFit, isDated, pointFits, pointsFit, filingHeld}
-use Rattle.validity.specs.Rows.{rowOf}
+use Rattle.meaning.proofs.Lines.{timely}
+use Rattle.blocks.specs.Rows.{rowOf}
 use Rattle.validity.specs.Availability.{validRow}
 use Rattle.validity.proofs.Filings.{valid-is}
 use Rattle.validity.specs.Columns.{isSet, Rising, Counting}
@@ -32,9 +32,9 @@ use Rattle.validity.proofs.Filed.{columns-rise, columns-count, columns-kinds, c
 use Rattle.validity.proofs.Valid.{index-valid-held}
 use Rattle.validity.proofs.Totals.{profiled-year}
 use Rattle.validity.proofs.Bounds.{energies-most, totals-most}
-use Rattle.history.specs.Cases.{meantCase, caseOfCode, isCurve, caseCodes, isSet as isMark}
-use Rattle.points.specs.Sources.{positionIn, bit}
-use Rattle.points.specs.Fits.{isPoint, RateFits, RatesFit}
+use Rattle.history.specs.Cases.{meantCase, caseOfCode, isCurve, caseCodes}
+use Rattle.history.specs.Years.{isSet as isMark, positionIn, bit}
+use Rattle.points.specs.Fits.{RateFits, RatesFit}
 use Rattle.curve.specs.Places.{basisOf}
 use Rattle.curve.specs.Fits.{SiteFits, ListsFit}
 use Rattle.curve.proofs.Sites.{basis-fits}
@@ -52,14 +52,6 @@ site-words t h =
     let b = and-parts (leb 1 (t .filiere) && leb (t .filiere) 11) _ (a .1) in
     let p = and-parts (leb 1 (t .ps) && leb (t .ps) mostPower) _ (b .1) in
     (and-made (leb 2021 (t .al) && leb (t .al) 2026) (leb 1 (t .filiere) && leb (t .filiere) 11) (a .0) (b .0), leb→le (t .ps) mostPower (and-parts (leb 1 (t .ps)) _ (p .0) .1))
-
-late-words : (al f : ℕ) → T (not (isTooSoon al f)) → 6 ≤ f → 2023 ≤ al
-unfolding isTooSoon
-late-words al f h g = go (ltb al 2023) refl (rw (le-leb 6 f g) at h)
-  where
-    go : (b : Bool) → ltb al 2023 ≡ b → T (not b) → 2023 ≤ al
-    go true e u = absurd u
-    go false e u = ltb-false al 2023 e
 
 -- ---- numbers of the tallies and the blocks
 point-fits : (h : Years) (first : ℕ) (xs : List ℕ) → T (pointsFit h first xs) → (i : ℕ) → T (isPoint (getD xs i missingPoint))
@@ -136,7 +128,7 @@ module _ {t : Site} {n : ℕ} {k : Tallies} {w : World} {ps xs ks : List ℕ} (f
   known = site-words t (fit .site) .0
 
   pub site-fits : SiteFits (t .al) (t .filiere) (t .ps)
-  site-fits = record { known = known; late = late-words (t .al) (t .filiere) (fit .late); ps = site-words t (fit .site) .1 }
+  site-fits = record { known = known; late = timely (t .al) (t .filiere) (fit .late); ps = site-words t (fit .site) .1 }
 
   pub short : h .count ≤ 10
   short = history-short (t .al) (t .filiere) known

@@ -6,7 +6,7 @@ use Prim.Native.Nat.{ℕ, _≤_}
 use native.Mathlib.Omega.{arith}
 use lib.Dec.{T, eqb, leb, leb→le, eqb→eq}
 use lib.ListN.{length}
-use Rattle.lists.proofs.Tables.{and-parts}
+use Rattle.lists.proofs.Tests.{and-parts}
 use Rattle.calendar.specs.declared.Years.{Years}
 use Rattle.calendar.specs.Spans.{historyYears, axisYears}
 use Rattle.meaning.specs.Filing.{Reading}

@@ -7,10 +7,11 @@ use native.Mathlib.Omega.{arith}
 use lib.Dec.{T, ltb}
 use lib.ListN.{getD, List·getD-eq-default}
 use borrow.Author.Tests.{ltb-true, ltb-false}
+use Rattle.curve.specs.YearPlaces.{held}
 use Rattle.lists.specs.Lists.{tab}
 use Rattle.lists.proofs.Laws.{length-tab, getD-tab0}
 use Rattle.lists.proofs.Tables.{tab-same}
-use Rattle.lists.proofs.Tabs.{map-tab}
+use Rattle.lists.proofs.Ranges.{map-tab}
 use Rattle.calendar.specs.declared.Years.{Years}
 use Rattle.calendar.specs.Spans.{historyYears}
 use Rattle.meaning.specs.Filing.{Site, Filing, historyOf, yearsIn, historyList}
@@ -22,9 +23,9 @@ use Rattle.meaning.specs.Blocks.{World}
 use Rattle.meaning.specs.Record.{Tallies, filingHeld}
 use Rattle.validity.specs.Days.{energiesOf, totalsOf}
 use Rattle.history.specs.Cases.{isCurve, caseCodes}
-use Rattle.points.specs.Sources.{casFrom}
+use Rattle.history.specs.Years.{casFrom}
 use Rattle.curve.specs.declared.Filling.{Filling}
-use Rattle.curve.specs.Places.{held, basisOf, fillingOf}
+use Rattle.curve.specs.Places.{basisOf, fillingOf}
 use Rattle.curve.proofs.Filings.{map-range}
 use Rattle.curve.proofs.Close.{counted-is, ncc-is, present-is}
 use Rattle.close.specs.declared.outcome.file.Year.{Year}

@@ -5,6 +5,7 @@ use mathlib.Core.List.{List}
 use Prim.Native.Nat.{ℕ, _≤_, _<_}
 use lib.Dec.{T}
 use lib.ListN.{length}
+use Rattle.curve.specs.YearPlaces.{held}
 use Rattle.lists.proofs.Laws.{length-tab}
 use Rattle.calendar.specs.declared.Years.{Years}
 use Rattle.calendar.specs.Spans.{historyYears}
@@ -16,9 +17,9 @@ use Rattle.meaning.specs.Record.{Tallies, filingHeld}
 use Rattle.demands.proofs.Bound.Counted.{some-point}
 use Rattle.validity.specs.Days.{energiesOf, totalsOf}
 use Rattle.history.specs.Cases.{isCurve, caseCodes}
-use Rattle.points.specs.Sources.{casFrom}
+use Rattle.history.specs.Years.{casFrom}
 use Rattle.curve.specs.declared.Filling.{Filling}
-use Rattle.curve.specs.Places.{held, basisOf, fillingOf, curveIn}
+use Rattle.curve.specs.Places.{basisOf, fillingOf, curveIn}
 use Rattle.curve.specs.Fits.{ListsFit, Filled}
 use Rattle.curve.proofs.Close.{exceeds-is, counted-is, curve-is}
 use Rattle.history.specs.declared.Marks.{Marks}

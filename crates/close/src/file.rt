@@ -2,13 +2,14 @@
 ghost use mathlib.Core.Path.{_≡_};
 ghost use mathlib.Core.Bool.{true};
 ghost use lib.ListN.{replicate};
+ghost use Rattle.curve.specs.YearPlaces.{held};
 ghost use Rattle.line_form.specs.Views.{siteView};
 ghost use Rattle.progress.specs.TallyViews.{talliesView};
 ghost use Rattle.meaning.specs.Level.{missingEntry};
 ghost use Rattle.meaning.specs.Record.{filingHeld};
 ghost use Rattle.readings.specs.Columns.{worldIn};
-ghost use Rattle.points.specs.Sources.{casFrom};
-ghost use Rattle.curve.specs.Places.{held, basisOf};
+ghost use Rattle.history.specs.Years.{casFrom};
+ghost use Rattle.curve.specs.Places.{basisOf};
 ghost use Rattle.curve.specs.Fits.{SiteFits, ListsFit, Filled};
 ghost use Rattle.close.specs.Closes.{FileFits, handsBack, closingMeant};
 use crate::outcome::Closing;

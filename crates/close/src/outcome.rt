@@ -6,6 +6,7 @@ mod told; // what the close hands back of it
 
 pub use file::Closing;
 pub use file::Year;
+pub(crate) use file::no_years;
 pub(crate) use file::refused;
 pub use told::Ended;
 pub(crate) use told::refuse;

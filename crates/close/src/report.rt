@@ -1,6 +1,7 @@
 // A report of a file that nothing refuses: level, points and years (document 01, Calls and the lines of a file).
 use crate::outcome::Closing;
 use crate::outcome::Year;
+use crate::outcome::no_years;
 use calendar::Years;
 use curve::Filling;
 use history::Case;
@@ -41,12 +42,7 @@ fn rows(h: Years, codes: [u64; 10], present: [u64; 10]) -> [Year; 10]
     ensures { λ r. ⌜ r ≡ rowsIn h codes present ⌝ }
 {
     let n = h.count as usize;
-    let none = Year {
-        year: 0,
-        case: 0,
-        present: 0,
-    };
-    let mut years = [none; 10];
+    let mut years = no_years();
     let mut k = 0;
     while k < n {
         let y = row(h.first + (k as u64), codes[k], present[k]);

@@ -8,8 +8,10 @@ use lib.Dec.{leb, ltb, leb→le, le→leb, ltb→lt, lt→ltb, leb·zero}
 use lib.ListN.{length, getD}
 use borrow.Author.Tests.{le-leb, lt-leb}
 use Rattle.lists.specs.Lists.{all, tab, neighbours}
-use Rattle.lists.proofs.Laws.{same}
-use Rattle.lists.proofs.AllAt.{and-true, and-false, getD-within, tab-on, tab-end, stops}
+use Rattle.lists.proofs.AllAt.{stops}
+use Rattle.lists.proofs.Turns.{tab-on, tab-end}
+use Rattle.lists.proofs.Tests.{same, and-false, and-true}
+use Rattle.lists.proofs.Ranges.{getD-any}
 use Rattle.calendar.specs.declared.Years.{Years}
 use Rattle.meaning.specs.Filing.{Reading, reading}
 use Rattle.meaning.specs.Line.{kindOfLetter}
@@ -65,13 +67,13 @@ module _ (axis : Years) (ps xs ks : List ℕ) (n : ℕ) where
   module _ (p x k : ℕ) where
     pub left-end : n ≤ k → left axis ps xs ks n p x k ≡ true
     unfolding left chain
-    left-end h = rw (tab-end n k (readingIn ps xs ks) h)
+    left-end h = rw (tab-end (readingIn ps xs ks) k n h)
 
     left-on : k < n → k < length ks → left axis ps xs ks n p x k
         ≡ ((readingFits axis (reading (getD ps k 0) (getD xs k 0) (kindOfLetter (getD ks k 0))) && (leb p (getD ps k 0) && leb x (getD xs k 0)))
         && left axis ps xs ks n (getD ps k 0 + 1) (getD xs k 0) (k + 1))
     unfolding left chain
-    left-on h l = rw (tab-on n k (readingIn ps xs ks) h, getD-within ks k 69 0 l) refl
+    left-on h l = rw (tab-on (readingIn ps xs ks) k n h, getD-any ks k 69 0 l) refl
 
     pub left-unfit : k < n → k < length ks → readingFits axis (reading (getD ps k 0) (getD xs k 0) (kindOfLetter (getD ks k 0))) ≡ false
         → false ≡ left axis ps xs ks n p x k

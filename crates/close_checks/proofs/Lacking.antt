@@ -7,11 +7,12 @@ use Prim.Native.Nat.{ℕ, _+_, _-_, _*_, _/_, _≤_, _<_}
 use native.Mathlib.Omega.{arith}
 use lib.Dec.{T, eqb}
 use lib.ListN.{getD}
+use Rattle.close_checks.specs.Totals.{someIn, someWinter, totalsZero}
+use Rattle.validity.specs.Dates.{somePartial, partialDates, lacksProfileAt, lacksProfiles}
 use Rattle.lists.specs.Lists.{any, range}
-use Rattle.lists.proofs.Laws.{same, getD-tab0}
+use Rattle.lists.proofs.Laws.{getD-tab0}
 use Rattle.calendar.specs.declared.Years.{Years}
 use Rattle.calendar.specs.Spans.{axisYears}
-use Rattle.calendar.proofs.Tables.{and-left, and-right, and-both}
 use Rattle.meaning.specs.Filing.{Site, Filing, axisOf, historyList, yearsIn}
 use Rattle.meaning.specs.Validity.{Interval, intervals, overlapsWinter, touches, totalOf, indexValid}
 use Rattle.meaning.specs.Cases.{caseOf, isDefault}
@@ -21,8 +22,9 @@ use Rattle.meaning.specs.Record.{Tallies, historyOfSite, readingsFit, filingHel
 use Rattle.readings.specs.Columns.{Columned}
 use Rattle.validity.specs.Columns.{opens, closes, january, meetsWinter, isSet, Rising}
 use Rattle.validity.specs.Days.{totalIn, ofInterval, totalAt, totalsOf}
-use Rattle.close_checks.specs.Closing.{somePartial, partialDates, lacksProfileAt, lacksProfiles, someIn, someWinter, missesBetween, missesDays, totalsZero}
+use Rattle.close_checks.specs.Closing.{missesBetween, missesDays}
 use Rattle.lists.proofs.Ranges.{any-tab, any-same, any-moved, some-of-range, range-some}
+use Rattle.lists.proofs.Tests.{same, and-left, and-right, and-made}
 use Rattle.validity.proofs.Fills.{around-here}
 use Rattle.validity.proofs.Winter.{touch-by-ends}
 use Rattle.validity.proofs.Filed.{intervalOf, Fits, fits, history-held, axis-held, intervals-held, by-year}
@@ -155,7 +157,7 @@ module _ (t : Site) (n : ℕ) (k : Tallies) (e : Bool) (w : World) where
         back u =
             let s = some-of-range gone ((q - 1) / 366 + 1 - p / 366) (p / 366) u in
             range-some (λ j. gone j && touches F (a .first + j) (intervalOf ps xs ks i)) (a .count) 0 (s .0) (omega arith) (omega (arith, s .1, s .2, facts .year (i + 1) h, facts .rises i h))
-            (and-both (gone (s .0)) (touches F (a .first + s .0) (intervalOf ps xs ks i)) (s .3) (row (s .0) .1 (s .1, omega (arith, s .1, s .2))))
+            (and-made (gone (s .0)) (touches F (a .first + s .0) (intervalOf ps xs ks i)) (s .3) (row (s .0) .1 (s .1, omega (arith, s .1, s .2))))
 
     pub daily-held : someWinterInterval (filingHeld t n k e w) (lacksDaily (filingHeld t n k e w)) ≡ someWinter (historyOfSite t .count) valid ps n (missesDays ps (k .dailyDates))
     daily-held = some-held (lacksDaily (filingHeld t n k e w)) (missesDays ps (k .dailyDates)) misses-at

@@ -6,8 +6,6 @@ use lib.Dec.{eqb}
 use lib.ListN.{getD}
 use Rattle.lists.specs.Lists.{any, range}
 use Rattle.validity.specs.Columns.{opens, closes}
-unfoldable pub use Rattle.validity.specs.Dates.{somePartial, partialDates, lacksProfileAt, lacksProfiles}
-unfoldable pub use Rattle.close_checks.specs.Totals.{someIn, someWinter, totalsZero}
 
 -- an interval from a to the one before b touches the axis years a / 366 to (b - 1) / 366: one of them has no D date
 unfoldable pub missesBetween : List ℕ → ℕ → ℕ → Bool

@@ -5,9 +5,6 @@ use Prim.Native.Nat.{ℕ, _-_}
 use Rattle.calendar.specs.declared.Years.{Years}
 use Rattle.meaning.specs.Record.{pointsFit, slotsFit, dailyFits, readingsFit}
 use Rattle.readings.specs.Columns.{readingsIn}
-unfoldable pub use Rattle.close_checks.specs.Slots.{slotFits}
-unfoldable pub use Rattle.close_checks.specs.Winter.{datedAt}
-unfoldable pub use Rattle.close_checks.specs.Axis.{placedAt, dayFits}
 
 -- all five, of lists and numbers: the far rows end where the near ones, which run from AL-9, begin
 unfoldable pub contentsIn : Years → Years → ℕ → List ℕ → List ℕ → List ℕ → List ℕ → List ℕ → List ℕ → List ℕ → ℕ → Bool

@@ -2,8 +2,10 @@
 use mathlib.Core.Bool.{Bool, _||_, cond}
 use mathlib.Core.List.{List}
 use Prim.Native.Nat.{ℕ}
+use Rattle.close_checks.specs.Totals.{someWinter, totalsZero}
+use Rattle.validity.specs.Dates.{partialDates, lacksProfiles}
 use Rattle.calendar.specs.declared.Years.{Years}
-use Rattle.close_checks.specs.Closing.{partialDates, lacksProfiles, someWinter, missesDays, totalsZero}
+use Rattle.close_checks.specs.Closing.{missesDays}
 
 -- by whether each holds; 0 for none
 unfoldable pub firstStop : Bool → Bool → Bool → ℕ

@@ -10,8 +10,10 @@ use lib.ListN.{length, getD, length-map, List·getD-append}
 use lib.Seq.{getD-append-add}
 use borrow.Author.Tests.{lt-ltb, le-ltb, ltb-true, ltb-false, eqb-true, eqb-false}
 use Rattle.lists.specs.Lists.{any, tab, flat, present, sum}
-use Rattle.lists.proofs.Laws.{any-each, or-split, is-false, length-tab, getD-tab0}
+use Rattle.lists.proofs.Laws.{any-each, length-tab, getD-tab0, each-map}
 use Rattle.lists.proofs.Tables.{tab-same}
+use Rattle.lists.proofs.Ranges.{map-tab}
+use Rattle.lists.proofs.Tests.{or-split, is-false}
 use Rattle.calendar.specs.Spans.{historyYears}
 use Rattle.note.specs.Peaks.{peakDays, peakCount}
 use Rattle.note.proofs.PeakDays.{days-length}
@@ -27,7 +29,7 @@ use Rattle.curve.specs.Tallies.{tally, pointIn, exceedsIn, tallyOf, entr
 use Rattle.curve.specs.YearPlaces.{Held, held}
 use Rattle.curve.specs.Places.{placesOf, allPlacesIn, basisOf, presentYears, fillingOf, curveEntryIn, curveIn, nccOf}
 use Rattle.curve.proofs.Tallying.{any-join, map-join}
-use Rattle.curve.proofs.Filings.{map-each, map-tab, each-to, Means, few, year-is, all-is}
+use Rattle.curve.proofs.Filings.{map-each, Means, few, year-is, all-is}
 
 -- ---- where 18 does not hold, every point is taken
 taken : (q : Place) → T (not (exceedsIn q)) → pointIn q ≡ pointAt q
@@ -35,11 +37,11 @@ unfolding exceedsIn pointIn
 taken q h = rw (is-false (sourceExceeds (q .source)) h)
 
 points-taken : (qs : List Place) → T (not (any exceedsIn qs)) → map pointIn qs ≡ map pointAt qs
-points-taken qs h = map-each pointIn pointAt (each-to taken (any-each exceedsIn qs h))
+points-taken qs h = map-each pointIn pointAt (each-map taken (any-each exceedsIn qs h))
 
 entries-taken : (qs : List Place) → T (not (any exceedsIn qs)) → map entryIn qs ≡ map (λ q. entryOf (pointAt q)) qs
 unfolding entryIn
-entries-taken qs h = map-each entryIn (λ q. entryOf (pointAt q)) (each-to (λ q g. ap entryOf (taken q g)) (any-each exceedsIn qs h))
+entries-taken qs h = map-each entryIn (λ q. entryOf (pointAt q)) (each-map (λ q g. ap entryOf (taken q g)) (any-each exceedsIn qs h))
 
 -- what holds of no place of all years holds of none of a year's
 quiet : {A : Type 0} (p : A → Bool) (qs : ℕ → List A) (n i k : ℕ) → i ≤ k → k < i + n → T (not (any p (flat (tab n i qs)))) → T (not (any p (qs k)))
@@ -69,7 +71,7 @@ day-entry g P [] j h d l = rw (le-ltb j 0 (omega arith))
 day-entry g P (w ∷ ws) zero h d l =
     ap (λ (xs : List ℕ). getD xs (20 * 0 + h) d) (map-join g (tab 20 0 (P w)) (flat (map (λ v. tab 20 0 (P v)) ws)))
     ∙ List·getD-append (map g (tab 20 0 (P w))) (map g (flat (map (λ v. tab 20 0 (P v)) ws))) d (20 * 0 + h) (omega (arith, l, length-map (tab 20 0 (P w)) g, length-tab 20 0 (P w)))
-    ∙ ap (λ (xs : List ℕ). getD xs (20 * 0 + h) d) (map-tab g (P w) 20 0)
+    ∙ ap (λ (xs : List ℕ). getD xs (20 * 0 + h) d) (map-tab g 20 0 (P w))
     ∙ (let e : 20 * 0 + h ≡ h = omega arith in ap (λ (m : ℕ). getD (tab 20 0 (λ k. g (P w k))) m d) e)
     ∙ getD-tab0 20 (λ k. g (P w k)) h d l
     ∙ first-day

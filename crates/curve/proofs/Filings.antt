@@ -1,17 +1,19 @@
 -- The filing that a record and its blocks hold, by the lists that the walk is lent: the sources of its points.
 use mathlib.Core.Path.{_≡_, refl, ap, sym, _∙_}
 use mathlib.Core.Bool.{Bool, true, false, _&&_, cond}
-use mathlib.Core.List.{List, _∷_, map}
+use mathlib.Core.List.{List, map}
 use mathlib.Core.Option.{Option, some, none}
-use Prim.Native.Nat.{ℕ, zero, suc, _+_, _-_, _≤_, _<_}
-use native.Mathlib.Nat.{add-zero, add-suc}
+use Prim.Native.Nat.{ℕ, _+_, _-_, _≤_, _<_}
+use native.Mathlib.Nat.{add-zero}
 use native.Mathlib.Omega.{arith}
 use lib.Dec.{T, ltb}
 use lib.ListN.{length, getD}
 use borrow.Author.Tests.{lt-ltb}
 use Rattle.lists.specs.Lists.{tab, range, present, sum, flat, Each, each-nil, each-cons}
-use Rattle.lists.proofs.Laws.{is-true, getD-tab0}
+use Rattle.lists.proofs.Laws.{getD-tab0, each-map}
+use Rattle.lists.proofs.Blocks.{tab-shift, map-range as range-tab}
 use Rattle.lists.proofs.Tables.{tab-same}
+use Rattle.lists.proofs.Tests.{is-true}
 use Rattle.calendar.specs.Spans.{among, isKnown, historyYears, historyLength}
 use Rattle.calendar.specs.Places.{hasWinterDate}
 use Rattle.calendar.proofs.Laws.{among-words, history-short, known-history}
@@ -25,10 +27,10 @@ use Rattle.meaning.specs.Blocks.{World, slotsStart}
 use Rattle.meaning.specs.Record.{Tallies, historyOfSite, profileHeld, byYear, rateOfCode, filingHeld}
 use Rattle.validity.proofs.Filings.{point-is}
 use Rattle.points.specs.declared.own.Basis.{Basis}
-use Rattle.history.specs.Cases.{isSet, meantCase, caseOfCode}
+use Rattle.history.specs.Cases.{meantCase, caseOfCode}
 use Rattle.points.specs.OwnGiven.{codeIn, readIn, profileIn, profiledOn}
 use Rattle.points.specs.DonorsGiven.{donorBy, curveGiven, indexGiven, donorsAmong}
-use Rattle.history.specs.Years.{positionIn, onDay, bit, giversOn, casFrom, casSum}
+use Rattle.history.specs.Years.{positionIn, onDay, bit, giversOn, casFrom, casSum, isSet}
 use Rattle.points.specs.Sources.{Day, curveDonorsIn, indexDonorsIn, defaultIn, sourceIn}
 use Rattle.curve.specs.Tallies.{place}
 use Rattle.curve.specs.YearPlaces.{Held, held, dayIn, placesOn, placesIn}
@@ -39,23 +41,9 @@ pub map-each : {A B : Type 0} (f g : A → B) {xs : List A} → Each (λ x. f x 
 map-each f g each-nil = refl
 map-each f g (each-cons {x = x} {xs = xs} h r) = rw (h, map-each f g r)
 
-pub each-to : {A : Type 0} {P Q : A → Type 0} → ((a : A) → P a → Q a) → {xs : List A} → Each P xs → Each Q xs
-each-to h each-nil = each-nil
-each-to h (each-cons {x = x} p r) = each-cons (h x p) (each-to h r)
-
-pub map-tab : {A B : Type 0} (f : A → B) (g : ℕ → A) (n i : ℕ) → map f (tab n i g) ≡ tab n i (λ k. f (g k))
-unfolding tab
-map-tab f g zero i = refl
-map-tab f g (suc n) i = ap (λ l. f (g i) ∷ l) (map-tab f g n (suc i))
-
-shifted : {A : Type 0} (f : ℕ → A) (a n i : ℕ) → tab n (a + i) f ≡ tab n i (λ k. f (a + k))
-unfolding tab
-shifted f a zero i = refl
-shifted f a (suc n) i = ap (λ l. f (a + i) ∷ l) (ap (λ (m : ℕ). tab n m f) (sym (add-suc a i)) ∙ shifted f a n (suc i))
-
 pub map-range : {A : Type 0} (f : ℕ → A) (a n : ℕ) → map f (range a n) ≡ tab n 0 (λ k. f (a + k))
 unfolding range
-map-range f a n = map-tab f (λ k. k) n a ∙ ap (λ (m : ℕ). tab n m f) (sym (add-zero a)) ∙ shifted f a n 0
+map-range f a n = range-tab f a n ∙ ap (λ (m : ℕ). tab n m f) (sym (add-zero a)) ∙ tab-shift n a 0 f
 
 bit-set : (b : Bool) → isSet (bit b) ≡ b
 unfolding isSet bit
@@ -221,7 +209,7 @@ module _ (t : Site) (n : ℕ) (r : Tallies) (e : Bool) (b : World) (energies tot
       ap flat (map-each
       (λ w. tab 20 0 (λ h. place (getD (r .rates) k 0) (sourceIn B (D w) (meantCase (caseOfCode (getD codes k 0))) k w h)))
       (λ w. tab 20 0 (placeOf F (first + k) w))
-      (each-to (λ w j. tab-same 20 0 (λ h. place (getD (r .rates) k 0) (sourceIn B (D w) (meantCase (caseOfCode (getD codes k 0))) k w h)) (placeOf F (first + k) w)
+      (each-map (λ w j. tab-same 20 0 (λ h. place (getD (r .rates) k 0) (sourceIn B (D w) (meantCase (caseOfCode (getD codes k 0))) k w h)) (placeOf F (first + k) w)
       (λ h l. place-is k w h i j (omega (arith, l)))) (each-winter (first + k))))
 
   pub all-is : allPlacesIn B L codes (r .rates) ≡ allPlaces F

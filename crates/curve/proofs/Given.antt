@@ -18,10 +18,10 @@ use Rattle.meaning.specs.Validity.{curveValid, indexValid}
 use Rattle.meaning.specs.Cases.{Case, caseM, case1, case2, case3, case4, caseP, case5, case6, Mark, mark, caseBy, markOf, marksOf, caseOf}
 use Rattle.meaning.specs.Points.{positionAt}
 use Rattle.meaning.specs.Blocks.{missingPoint, rowSize, isNear, nearStart, farStart}
-use Rattle.validity.specs.Rows.{holdsYear, part, rowOf}
-use Rattle.history.specs.Cases.{isSet, isCurve, meterOf, markIn, marksIn, caseIn, caseCodes, caseOfCode, codeOfCase, caseTold, meantCase}
-use Rattle.history.specs.Years.{positionIn}
-use Rattle.points.specs.Fits.{isPoint, PointsFit}
+use Rattle.blocks.specs.Rows.{holdsYear, part, rowOf}
+use Rattle.history.specs.Cases.{isCurve, meterOf, markIn, marksIn, caseIn, caseCodes, caseOfCode, codeOfCase, caseTold, meantCase}
+use Rattle.history.specs.Years.{positionIn, isSet}
+use Rattle.points.specs.OwnFits.{isPoint, PointsFit}
 use Rattle.curve.proofs.Filings.{map-range}
 
 -- ---- positions

@@ -8,6 +8,8 @@ use native.Mathlib.Omega.{arith}
 use lib.Dec.{ltb}
 use lib.ListN.{length, getD, List·getD-eq-default}
 use borrow.Author.Tests.{ltb-true, ltb-false}
+use Rattle.points.specs.OwnFits.{BasisFits}
+use Rattle.points.specs.DonorFits.{CasFit}
 use Rattle.lists.specs.Lists.{tab, sum}
 use Rattle.lists.proofs.Laws.{length-tab, getD-tab0}
 use Rattle.calendar.specs.declared.Years.{Years}
@@ -15,9 +17,9 @@ use Rattle.calendar.specs.Spans.{historyYears}
 use Rattle.calendar.proofs.Laws.{among-words, history-bounds, history-short, history-year}
 use Rattle.note.specs.Coefficients.{caOf, theta}
 use Rattle.note.proofs.Factors.{theta-most}
-use Rattle.note.proofs.HistoryPeaks.{ca-not-zero, ca-at-most}
+use Rattle.note.proofs.History.{ca-not-zero, ca-at-most}
 use Rattle.history.specs.Years.{casFrom, casSum}
-use Rattle.points.specs.Fits.{AtMost, CasFit, BasisFits}
+use Rattle.history.specs.Fits.{AtMost}
 use Rattle.curve.specs.YearPlaces.{held}
 use Rattle.curve.specs.Places.{basisOf}
 use Rattle.curve.specs.PlaceFits.{HeldFits}

@@ -10,6 +10,8 @@ use lib.Dec.{eqb}
 use lib.ListN.{length, set, length-append}
 use lib.Seq.{sets}
 use Rattle.lists.specs.Lists.{any, present, sum}
+use Rattle.lists.proofs.Tests.{or-false}
+use Rattle.lists.proofs.Blocks.{sum-append}
 use Rattle.rounding.specs.Points.{rated, mostPoint}
 use Rattle.rounding.proofs.Formulas.{rated-most}
 use Rattle.meaning.specs.Points.{Source, Place, meant, sourceExceeds, pointAt, ratedBy, withRate}
@@ -37,13 +39,9 @@ pub nothing-plus : (t : Tally) → plus (tally false 0 0) t ≡ t
 unfolding plus
 nothing-plus t = rw (zero-add (t .sum), zero-add (t .counted))
 
-or-nothing : (a : Bool) → (a || false) ≡ a
-or-nothing true = refl
-or-nothing false = refl
-
 pub plus-nothing : (t : Tally) → plus t (tallyOf []) ≡ t
 unfolding plus tallyOf any sum present
-plus-nothing t = rw (or-nothing (t .exceeds), add-zero (t .sum), add-zero (t .counted))
+plus-nothing t = rw (or-false (t .exceeds), add-zero (t .sum), add-zero (t .counted))
 
 -- ---- two groups of places in a row
 pub any-join : {A : Type 0} (p : A → Bool) (xs ys : List A) → any p (xs ++ ys) ≡ (any p xs || any p ys)
@@ -61,11 +59,6 @@ present-join [] ps = refl
 present-join (none ∷ os) ps = present-join os ps
 present-join (some x ∷ os) ps = ap (λ l. x ∷ l) (present-join os ps)
 
-sum-join : (xs ys : List ℕ) → sum (xs ++ ys) ≡ sum xs + sum ys
-unfolding sum
-sum-join [] ys = sym (zero-add (sum ys))
-sum-join (x ∷ xs) ys = rw (sum-join xs ys) (sym (add-assoc x (sum xs) (sum ys)))
-
 points-join : (xs ys : List Place) → present (map pointIn (xs ++ ys)) ≡ present (map pointIn xs) ++ present (map pointIn ys)
 points-join xs ys = ap present (map-join pointIn xs ys) ∙ present-join (map pointIn xs) (map pointIn ys)
 
@@ -74,7 +67,7 @@ unfolding tallyOf plus
 tally-join xs ys =
     let ps = present (map pointIn xs) in
     let qs = present (map pointIn ys) in
-    rw (any-join exceedsIn xs ys, points-join xs ys, sum-join ps qs, length-append ps qs)
+    rw (any-join exceedsIn xs ys, points-join xs ys, sum-append ps qs, length-append ps qs)
 
 pub tally-on : (t : Tally) (xs ys : List Place) {x : Tally} → plus t (tallyOf (xs ++ ys)) ≡ x → plus (plus t (tallyOf xs)) (tallyOf ys) ≡ x
 tally-on t xs ys e = plus-assoc t (tallyOf xs) (tallyOf ys) ∙ sym (ap (plus t) (tally-join xs ys)) ∙ e

@@ -9,6 +9,7 @@ use lib.Dec.{ltb}
 use borrow.Author.Tests.{ltb-true, ltb-false}
 use lib.ListN.{length, getD, set, drop, drop-of-length-le, List·getD-eq-default}
 use lib.Seq.{sets, drop-cons}
+use Rattle.history.specs.Fits.{AtMost}
 use Rattle.lists.specs.Lists.{tab, flat}
 use Rattle.lists.proofs.Laws.{length-tab, getD-tab0}
 use Rattle.lists.proofs.Turns.{tab-on, tab-end}
@@ -22,7 +23,7 @@ use Rattle.points.specs.OwnFits.{FilledIs}
 use Rattle.history.specs.declared.Day.{Day as YearsOnDay}
 use Rattle.history.specs.Years.{yearsOn, onDay, positionIn}
 use Rattle.points.specs.Sources.{Day, dayWith, sourceIn}
-use Rattle.points.specs.Fits.{RateFits, AtMost, DayFits}
+use Rattle.points.specs.Fits.{RateFits, DayFits}
 use Rattle.curve.specs.declared.tallies.Tally.{Tally}
 use Rattle.curve.specs.Tallies.{tally, tallyOf, entriesOf, plus, entryFilled, tallyFilled, place}
 use Rattle.curve.specs.YearPlaces.{Held, dayIn, placesOn, placesIn}

@@ -4,12 +4,15 @@ use mathlib.Core.List.{List}
 use Prim.Native.Nat.{ℕ, _*_, _≤_}
 use lib.Dec.{T}
 use lib.ListN.{length}
+use Rattle.curve.specs.YearPlaces.{Held}
+use Rattle.points.specs.OwnFits.{PointsFit, BasisFits}
+use Rattle.history.specs.Fits.{AtMost}
 use Rattle.calendar.specs.Spans.{isKnown}
 use Rattle.meaning.specs.Blocks.{slotsSize}
 use Rattle.points.specs.declared.own.Basis.{Basis}
-use Rattle.points.specs.Fits.{AtMost, PointsFit, RatesFit, BasisFits}
+use Rattle.points.specs.Fits.{RatesFit}
 use Rattle.curve.specs.declared.Filling.{Filling}
-use Rattle.curve.specs.Places.{Held, basisOf, fillingOf, curveIn}
+use Rattle.curve.specs.Places.{basisOf, fillingOf, curveIn}
 
 -- a site that document 01 accepts
 pub record SiteFits (al f p : ℕ) : Type 0 where

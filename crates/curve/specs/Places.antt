@@ -15,8 +15,7 @@ use Rattle.history.specs.Cases.{meantCase, caseOfCode}
 use Rattle.history.specs.Years.{casFrom, casSum}
 use Rattle.curve.specs.declared.Filling.{Filling}
 use Rattle.curve.specs.Tallies.{tallyOf, entryIn}
-use Rattle.curve.specs.YearPlaces.{placesIn}
-pub use Rattle.curve.specs.YearPlaces.{Held, held}
+use Rattle.curve.specs.YearPlaces.{placesIn, Held}
 
 -- by the codes of the years' cases and their rates
 unfoldable pub placesOf : Basis → Held → List ℕ → List ℕ → ℕ → List Place

@@ -7,7 +7,7 @@ use Prim.Native.Nat.{ℕ, _+_}
 use lib.Dec.{T}
 use borrow.Author.Tests.{eq-eqb}
 use lib.ListN.{length}
-use Rattle.lists.proofs.Laws.{is-true}
+use Rattle.lists.proofs.Tests.{is-true}
 use Rattle.meaning.specs.Filing.{Filing}
 use Rattle.meaning.specs.Line.{Line}
 use Rattle.meaning.specs.Refusals.{Reason, numberOf}

@@ -1,37 +1,32 @@
 -- The filing of accepted lines that end in E has what the bound rests on.
-use mathlib.Core.Path.{_≡_, refl, ap, _∙_}
+use mathlib.Core.Path.{_≡_, ap, _∙_}
 use mathlib.Core.Bool.{Bool, true, false, not, _&&_, _||_, cond}
 use mathlib.Core.List.{List, [], _∷_}
 use mathlib.Core.Option.{some, none}
 use Prim.Native.Nat.{ℕ, _-_, _≤_}
 use native.Mathlib.Omega.{arith}
-use lib.Dec.{T, eqb, leb, ltb}
+use lib.Dec.{T, eqb, leb}
 use lib.ListN.{length, getD}
-use borrow.Author.Tests.{le-leb}
 use Rattle.lists.specs.Lists.{any, Each, each-cons}
-use Rattle.lists.proofs.Laws.{first-none, is-true}
+use Rattle.lists.proofs.Laws.{first-none}
+use Rattle.lists.proofs.Tests.{is-true, not-not}
 use Rattle.calendar.specs.declared.Years.{Years}
 use Rattle.calendar.specs.Spans.{among, isKnown}
 use Rattle.calendar.proofs.Laws.{among-words, history-short}
-use Rattle.note.proofs.HistoryPeaks.{known, ca-not-zero, ca-twofold}
+use Rattle.note.proofs.History.{known, ca-not-zero, ca-twofold}
 use Rattle.meaning.specs.Filing.{Filing, historyOf}
 use Rattle.meaning.specs.Line.{Line}
-use Rattle.meaning.specs.Refusals.{isTooSoon}
 use Rattle.meaning.specs.File.{siteIn, historyIn, endedIn, filingIn}
 use Rattle.meaning.specs.Closing.{Lack, unended, partial, lacking, zeroTotal, tooHigh, lacks, lackOrder, closingRefusal}
 use Rattle.meaning.specs.Blocks.{World}
 use Rattle.meaning.specs.Record.{Rec, isTaken, historyOfRec, isWithin, byYear, rateOfCode, filingHeld, filingOf}
 use Rattle.meaning.proofs.Accepted.{between}
+use Rattle.meaning.proofs.Lines.{timely}
 use Rattle.demands.proofs.Bound.Sane.{Sane}
 use Rattle.demands.proofs.Held.Parts.{HeldRec, HeldWorld}
 use Rattle.demands.proofs.Held.Ranges.{each-year-at}
 use Rattle.demands.proofs.Held.Rec.{held-history, held-kept}
 use Rattle.demands.proofs.Held.Follows.{held-taken, held-known, held-timely}
-
--- a file that a close reports on has a line
-not-not : (b : Bool) → T (not (not b)) → T b
-not-not true t = tt
-not-not false t = t
 
 pub ended : (F : Filing) → closingRefusal F ≡ none → T (F .ended)
 unfolding closingRefusal lackOrder lacks
@@ -44,15 +39,6 @@ taken : (ls : List Line) (s : Rec) → HeldRec ls s → T (endedIn ls) → T (is
 unfolding endedIn any
 taken [] s h t = absurd t
 taken (l ∷ ls) s h t = held-taken h
-
--- 9 does not hold
-timely : (al f : ℕ) → T (not (isTooSoon al f)) → 6 ≤ f → 2023 ≤ al
-unfolding isTooSoon
-timely al f t h = go (ltb al 2023) refl (rw (le-leb 6 f h) at t)
-  where
-    go : (b : Bool) → ltb al 2023 ≡ b → T (not b) → 2023 ≤ al
-    go true e n = absurd n
-    go false e n = borrow.Author.Tests.ltb-false al 2023 e
 
 -- a rate that is there is in its range
 rate-of : (n r : ℕ) → T (eqb n 0 || isWithin 10 1000 n) → rateOfCode n ≡ some r → (10 ≤ r) × (r ≤ 1000)

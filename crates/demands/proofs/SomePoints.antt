@@ -5,8 +5,8 @@ use mathlib.Core.Option.{Option, some, none}
 use Prim.Native.Nat.{ℕ, _<_}
 use native.Mathlib.Omega.{arith}
 use lib.Dec.{T, eqb, leb}
+use Rattle.lists.proofs.Tests.{and-made, and-parts}
 use Rattle.calendar.specs.Spans.{isKnown}
-use Rattle.calendar.proofs.Tables.{and-both}
 use Rattle.meaning.specs.Filing.{Site, Filing}
 use Rattle.meaning.specs.Refusals.{isTooSoon}
 use Rattle.meaning.specs.Level.{Report, reportOf}
@@ -14,7 +14,6 @@ use Rattle.meaning.specs.Closing.{Lack, closingRefusal}
 use Rattle.meaning.specs.Blocks.{World, sizesFit}
 use Rattle.meaning.specs.Record.{Rec, isTaken, siteOfRec, isWithin, siteFits, recFits, contentsFit, filingHeld, filingOf}
 use Rattle.meaning.specs.Calls.{reports, leaves, closed, closeOf}
-use Rattle.meaning.proofs.Accepted.{both}
 use Rattle.demands.proofs.Bound.Counted.{some-point}
 use Rattle.demands.proofs.Sane.{ended}
 
@@ -22,9 +21,9 @@ use Rattle.demands.proofs.Sane.{ended}
 site-known : (t : Site) → T (siteFits true t) → T (isKnown (t .al) (t .filiere))
 unfolding siteFits isWithin isKnown
 site-known t h =
-    let a = both (leb 2021 (t .al) && leb (t .al) 2026) _ h in
-    let b = both (leb 1 (t .filiere) && leb (t .filiere) 11) _ (a .1) in
-    and-both (leb 2021 (t .al) && leb (t .al) 2026) (leb 1 (t .filiere) && leb (t .filiere) 11) (a .0) (b .0)
+    let a = and-parts (leb 2021 (t .al) && leb (t .al) 2026) _ h in
+    let b = and-parts (leb 1 (t .filiere) && leb (t .filiere) 11) _ (a .1) in
+    and-made (leb 2021 (t .al) && leb (t .al) 2026) (leb 1 (t .filiere) && leb (t .filiere) 11) (a .0) (b .0)
 
 taken : (s : Rec) → T (eqb (s .last) 8) → isTaken s ≡ true
 unfolding isTaken
@@ -33,9 +32,9 @@ taken s t = let e : s .last ≡ 8 = lib.Dec.eqb→eq (s .last) 8 t in rw e
 known : (s : Rec) (w : World) → T (recFits s) → T (filingOf s w .ended) → T (isKnown (filingOf s w .site .al) (filingOf s w .site .filiere))
 unfolding recFits filingOf filingHeld siteOfRec
 known s w f t =
-    let a = both (leb (s .state) 3 && (leb (s .count) 9999 && leb (s .last) 8)) _ f in
-    let b = both (siteFits (isTaken s) (s .site) && not (isTooSoon (s .site .al) (s .site .filiere))) _ (a .1) in
-    let c = both (siteFits (isTaken s) (s .site)) _ (b .0) in
+    let a = and-parts (leb (s .state) 3 && (leb (s .count) 9999 && leb (s .last) 8)) _ f in
+    let b = and-parts (siteFits (isTaken s) (s .site) && not (isTooSoon (s .site .al) (s .site .filiere))) _ (a .1) in
+    let c = and-parts (siteFits (isTaken s) (s .site)) _ (b .0) in
     rw (taken s t) (site-known (s .site) (rw (taken s t) at (c .0)))
 
 closed-points : (s : Rec) (w : World) (r : Report) → T (recFits s) → (o : Option Lack) → closingRefusal (filingOf s w) ≡ o → (closed o s w) .answer ≡ reports r → 0 < r .points
@@ -53,7 +52,7 @@ unfolding closeOf leaves
 close-counts s w r q = go (sizesFit w && (recFits s && contentsFit s w)) (eqb (s .state) 1) refl q
   where
     parts : T (sizesFit w && (recFits s && contentsFit s w)) → T (recFits s)
-    parts t = both (recFits s) (contentsFit s w) (both (sizesFit w) (recFits s && contentsFit s w) t .1) .0
+    parts t = and-parts (recFits s) (contentsFit s w) (and-parts (sizesFit w) (recFits s && contentsFit s w) t .1) .0
 
     go : (a b : Bool) → (sizesFit w && (recFits s && contentsFit s w)) ≡ a
         → (cond a (cond b (closed (closingRefusal (filingOf s w)) s w) (leaves 13 s w)) (leaves 1 s w)) .answer ≡ reports r → 0 < r .points

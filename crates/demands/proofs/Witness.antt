@@ -7,9 +7,10 @@ use Prim.Native.Nat.{ℕ}
 use native.Mathlib.Omega.{arith}
 use lib.Dec.{T}
 use Rattle.lists.specs.Lists.{Each, Some}
-use Rattle.lists.proofs.Laws.{paired, is-true}
+use Rattle.lists.proofs.Laws.{paired}
+use Rattle.lists.proofs.Tests.{is-true}
 use Rattle.calendar.specs.Spans.{isKnown, historyLength, historyYears, among}
-use Rattle.note.proofs.HistoryPeaks.{ca-not-zero, ca-twofold}
+use Rattle.note.proofs.History.{ca-not-zero, ca-twofold}
 use Rattle.meaning.specs.Filing.{Site, historyOf}
 use Rattle.meaning.specs.Line.{Line}
 use Rattle.meaning.specs.File.{siteIn, filingIn}

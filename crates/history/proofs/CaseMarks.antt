@@ -7,10 +7,11 @@ use native.Mathlib.Omega.{arith}
 use lib.Dec.{eqb, ltb}
 use lib.ListN.{getD, set}
 use borrow.Author.Tests.{eq-eqb, ne-eqb, lt-ltb, le-ltb, ltb-true, ltb-false}
+use Rattle.history.specs.Years.{isSet}
 use Rattle.lists.specs.Lists.{any, tab}
 use Rattle.lists.proofs.Turns.{tab-on, tab-end, set-tab}
 use Rattle.meaning.specs.Cases.{Mark, mark, curveCase, indexCase, caseBy}
-use Rattle.history.specs.Cases.{isSet, someSet, caseWith, caseTold, caseIn, meterOf, marksIn, markIn, codeOfCase}
+use Rattle.history.specs.Cases.{someSet, caseWith, caseTold, caseIn, meterOf, marksIn, markIn, codeOfCase}
 
 -- the marks from place k on
 unfoldable pub someLeft : ℕ → List ℕ → ℕ → Bool

@@ -8,7 +8,7 @@ use Rattle.lists.specs.Lists.{any, tab}
 use Rattle.meaning.specs.Filing.{Meter, noMeter, curveMeter, indexMeter}
 use Rattle.meaning.specs.Cases.{caseM, case1, case2, case3, case4, caseP, case5, case6, Mark, mark, curveCase, indexCase, caseBy, Case as DocumentCase}
 use Rattle.history.specs.declared.cases.Case.{Case}
-unfoldable pub use Rattle.history.specs.Years.{isSet}
+use Rattle.history.specs.Years.{isSet}
 use Rattle.history.specs.declared.cases.Case.the-variants.{M, T1, T2, T3, T4, P, I5, I6}
 
 -- the case that each variant is

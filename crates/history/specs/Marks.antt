@@ -8,7 +8,7 @@ use Rattle.lists.specs.Lists.{tab}
 use Rattle.calendar.specs.declared.Years.{Years}
 use Rattle.meaning.specs.Filing.{Meter}
 use Rattle.meaning.specs.Cases.{isDefault}
-use Rattle.validity.specs.Rows.{rowOf}
+use Rattle.blocks.specs.Rows.{rowOf}
 use Rattle.validity.specs.Availability.{validRow}
 use Rattle.validity.specs.Columns.{isSet}
 use Rattle.validity.specs.Index.{validIndex}

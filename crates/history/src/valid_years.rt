@@ -3,7 +3,7 @@ ghost use mathlib.Core.Path.{_≡_};
 ghost use Prim.Native.Nat.{_≤_, _<_};
 ghost use lib.ListN.{length};
 ghost use Rattle.line_form.specs.Views.{meterView};
-ghost use Rattle.validity.specs.Rows.{rowOf};
+ghost use Rattle.blocks.specs.Rows.{rowOf};
 ghost use Rattle.validity.specs.Availability.{validRow};
 ghost use Rattle.history.specs.Cases.{isCurve};
 ghost use Rattle.history.specs.Years.{bit};

@@ -8,7 +8,7 @@ use native.Mathlib.Omega.{arith}
 use lib.Dec.{eqb, ltb, eqb·suc-zero, eqb→eq}
 use borrow.Author.Tests.{eq-eqb}
 use Rattle.lists.specs.Lists.{firstOf}
-use Rattle.lists.proofs.Laws.{same, is-false}
+use Rattle.lists.proofs.Tests.{same, is-false}
 use Rattle.meaning.specs.Filing.{Meter, noMeter}
 use Rattle.meaning.specs.Line.{Line, Tag, S, C, X, E, rank, is, tagOf, hasDateOn}
 use Rattle.meaning.specs.Refusals.{Before, Reason, illegible, unknown, misplaced, malformed, outside, noDate, notLater, tooSoon, falling, tooMany, miscounted, numberOf, hasNoDate, holds, order, refusal}

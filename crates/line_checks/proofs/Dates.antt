@@ -5,7 +5,7 @@ use Prim.Native.Nat.{ℕ, _≤_, _<_}
 use native.Mathlib.Omega.{arith}
 use lib.Dec.{T}
 use borrow.Author.Tests.{le-ltb}
-use Rattle.lists.proofs.Laws.{is-true}
+use Rattle.lists.proofs.Tests.{is-true}
 use Rattle.calendar.specs.declared.Years.{Years}
 use Rattle.calendar.specs.declared.Place.{Place}
 use Rattle.calendar.specs.declared.Place.the-variants.{At, Nowhere}

@@ -6,8 +6,7 @@ use Rattle.meaning.specs.Line.{Line, numberAt, yearOn, siteOn}
 use Rattle.meaning.specs.Refusals.{Reason}
 use Rattle.line_form.specs.Views.{meterShown}
 use Rattle.line_form.specs.declared.Site.{Site}
-use Rattle.line_checks.specs.Order.{numberBy}
-pub use Rattle.line_checks.specs.Order.{whereTaken}
+use Rattle.line_checks.specs.Order.{numberBy, whereTaken}
 use Rattle.line_checks.specs.declared.SiteJudged.{SiteJudged}
 use Rattle.line_checks.specs.declared.YearJudged.{YearJudged}
 use Rattle.line_checks.specs.declared.RateJudged.{RateJudged}

@@ -5,12 +5,13 @@ use Prim.Native.Nat.{ℕ, zero, suc, _+_, _-_, _≤_, _<_, min}
 use native.Mathlib.Omega.{arith}
 use lib.Dec.{T, leb, ltb, eqb, leb·zero, leb·suc-zero}
 use borrow.Author.Tests.{ltb-false, leb-true, leb-false, lt-ltb, le-ltb, lt-leb, ne-eqb}
+use Rattle.lists.proofs.Tests.{and-false}
 use Rattle.calendar.specs.declared.Years.{Years}
 use Rattle.calendar.specs.Dates.{daysIn, isDate, isWinter}
 use Rattle.calendar.specs.Spans.{years, among, axisYears, historyYears, isKnown}
 use Rattle.calendar.proofs.Laws.{no-month, longest-31, days-in-longest, history-bounds, no-history}
-use Rattle.text.specs.Numbered.{most}
-use Rattle.text.proofs.Laws.{ltb-capped}
+use Rattle.text.specs.Numbers.{most}
+use Rattle.text.proofs.NumberLaws.{ltb-capped}
 use Rattle.meaning.specs.Record.{isWithin}
 
 -- ---- the law
@@ -37,9 +38,6 @@ exact p n above v t = go (leb n v) refl
     go false e = let h : v < n = leb-false n v e in omega arith
 
 -- ---- ranges and spans
-and-false : (b : Bool) → (b && false) ≡ false
-and-false true = refl
-and-false false = refl
 
 within-above : (a b n : ℕ) → b < n → (v : ℕ) → n ≤ v → isWithin a b v ≡ false
 unfolding isWithin

@@ -4,13 +4,12 @@ use mathlib.Core.Bool.{Bool, true, false, not, _&&_, _||_}
 use Prim.Native.Nat.{ℕ, _+_, _≤_, _<_, min}
 use native.Mathlib.Omega.{arith}
 use lib.Dec.{T, leb, ltb}
-use Rattle.lists.proofs.Laws.{is-true}
-use Rattle.lists.proofs.Tabs.{or-parts}
+use Rattle.lists.proofs.Tests.{is-true, or-parts, or-false}
 use Rattle.calendar.specs.declared.Years.{Years}
 use Rattle.calendar.specs.Dates.{isDate}
 use Rattle.calendar.specs.Spans.{among, axisYears}
 use Rattle.text.specs.Fields.{fieldAt, restAt}
-use Rattle.text.specs.Numbered.{most}
+use Rattle.text.specs.Numbers.{most}
 use Rattle.meaning.specs.Line.{Line, Tag, S, X, D, B, R, E, tagOf, formsOf, inRange, someField, numberAt, yearOn, monthOn, dayOn, siteOn, meterOf, hasDateOn, isWinterTag, mostPower, mostIndex, mostDaily}
 use Rattle.meaning.specs.Refusals.{isMalformed, isOutside, hasNoDate}
 use Rattle.meaning.specs.Record.{isWithin}
@@ -47,9 +46,6 @@ unfolding countReadOf
 malformed-E l e = malformed E l e
 
 -- ---- 6
-or-false : (b : Bool) → (b || false) ≡ b
-or-false true = refl
-or-false false = refl
 
 pub either : {a b c d : Bool} → a ≡ c → b ≡ d → (a || b) ≡ (c || d)
 either p q = rw (p, q)

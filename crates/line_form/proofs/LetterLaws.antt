@@ -6,8 +6,6 @@ use Rattle.meaning.specs.Line.{isKind}
 use Rattle.meaning.specs.Filing.{Meter, noMeter, curveMeter, indexMeter, Kind, real, corrected, estimated, strange}
 use Rattle.meaning.specs.Blocks.{letterOfKind}
 use Rattle.line_form.specs.Views.{meterView, meterShown}
-pub use Rattle.line_form.proofs.TagLaws.{unknown, known-tag}
-pub use Rattle.line_form.proofs.Read.{told-illegible, told-legible}
 
 -- a kind that has no letter is none
 pub kind-letter : (k : Kind) → not (eqb (letterOfKind k) 0) ≡ isKind k

@@ -6,7 +6,7 @@ use native.Mathlib.Omega.{arith}
 use lib.ListN.{getD}
 use Rattle.lists.proofs.Laws.{getD-tab0}
 use Rattle.text.specs.Fields.{tabs, fieldAt}
-use Rattle.text.specs.Numbered.{valueOf, most}
+use Rattle.text.specs.Numbers.{valueOf, most}
 use Rattle.meaning.specs.Line.{Line}
 use Rattle.meaning.specs.Refusals.{isIllegible}
 use Rattle.line_form.specs.Shapes.{shapeOf}

@@ -6,7 +6,7 @@ use native.Mathlib.Omega.{arith}
 use lib.Dec.{eqb}
 use lib.ListN.{getD}
 use Rattle.text.specs.Fields.{fieldAt, reads, edition}
-use Rattle.text.specs.Numbered.{isNumber}
+use Rattle.text.specs.Numbers.{isNumber}
 use Rattle.meaning.specs.Line.{Line, numberAt, meterOf, meterOfLetter, isMeter, kindOf, kindOfLetter}
 use Rattle.meaning.specs.Blocks.{letterOfKind}
 use Rattle.line_form.specs.Fields.{Tells}

@@ -11,7 +11,7 @@ use lib.Seq.{take-suc-set, take-all}
 use Rattle.lists.specs.Lists.{tab}
 use Rattle.lists.proofs.Tables.{tab-snoc}
 use Rattle.text.specs.Fields.{upTo, past, restAt, fieldAt}
-use Rattle.text.specs.Numbered.{isDash}
+use Rattle.text.specs.Numbers.{isDash}
 use Rattle.meaning.specs.Line.{Line, formsOf, inForm}
 use Rattle.line_form.specs.Shapes.{shapeOf}
 use Rattle.line_form.specs.Fields.{Tells}

@@ -7,11 +7,12 @@ use native.Mathlib.Omega.{arith}
 use lib.Dec.{T, eqb}
 use lib.ListN.{length, getD}
 use borrow.Author.Tests.{ne-eqb}
+use Rattle.text.proofs.NumberLaws.{of-digit}
 use Rattle.lists.specs.Lists.{all}
-use Rattle.lists.proofs.Laws.{is-true}
-use Rattle.text.specs.Numbered.{isDigit, isNumber, isDash}
+use Rattle.lists.proofs.Tests.{is-true}
+use Rattle.text.specs.Numbers.{isDigit, isNumber, isDash}
 use Rattle.text.specs.Fields.{reads, edition}
-use Rattle.text.proofs.Laws.{of-digit, of-reads}
+use Rattle.text.proofs.Laws.{of-reads}
 use Rattle.meaning.specs.Line.{other, tagOfField, tagOfLetter, meterOf, meterOfLetter, kindOf, kindOfLetter}
 use Rattle.meaning.specs.Filing.{Meter, noMeter, strange}
 use Rattle.line_form.specs.Shapes.{aloneOf, shapeOf}

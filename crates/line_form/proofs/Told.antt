@@ -9,11 +9,12 @@ use native.Mathlib.Numerals.{add-one}
 use lib.Dec.{eqb, ltb}
 use lib.ListN.{length, take, set, replicate}
 use borrow.Author.Tests.{eq-eqb, ne-eqb, lt-ltb, le-ltb, ltb-true, ltb-false}
+use Rattle.text.specs.Numbers.{valueFrom, valueOf, most}
 use Rattle.lists.specs.Lists.{tab, any}
 use Rattle.lists.proofs.Tables.{tab-same}
 use Rattle.lists.proofs.Turns.{set-tab}
 use Rattle.text.specs.Fields.{isStrange, upTo, past, tabAt, tabs, restAt, fieldAt, reads, edition}
-use Rattle.text.specs.Numbered.{valueFrom, valueOf, most, numberedOf}
+use Rattle.text.specs.Numbered.{numberedOf}
 use Rattle.text.specs.declared.Numbered.{Numbered}
 use Rattle.text.proofs.Laws.{first-of, past-none, field-beyond}
 use Rattle.meaning.specs.Line.{Line}

@@ -10,12 +10,13 @@ use lib.ListN.{length, getD, replicate}
 use borrow.Author.Tests.{ltb-false, ne-eqb}
 use Rattle.lists.specs.Lists.{any, tab}
 use Rattle.lists.proofs.Laws.{length-tab}
-use Rattle.lists.proofs.Tabs.{or-parts, any-at}
+use Rattle.lists.proofs.Tabs.{any-at}
+use Rattle.lists.proofs.Tests.{or-parts}
 use Rattle.calendar.specs.declared.Years.{Years}
 use Rattle.calendar.specs.Spans.{among}
 use Rattle.text.specs.Fields.{upTo, past, restAt, fieldAt}
-use Rattle.text.specs.Numbered.{most, valueOf, isDash}
-use Rattle.text.proofs.Laws.{ltb-capped}
+use Rattle.text.specs.Numbers.{most, valueOf, isDash}
+use Rattle.text.proofs.NumberLaws.{ltb-capped}
 use Rattle.meaning.specs.Line.{Line, Tag, C, P, tagOf, Form, number, numberOrDash, formsOf, inRange, someField, numberAt, yearOn, valueAt, mostPower, mostProfile}
 use Rattle.meaning.specs.Refusals.{isMalformed, isOutside}
 use Rattle.meaning.specs.Blocks.{missingPoint}

@@ -5,7 +5,7 @@ use Prim.Native.Nat.{ℕ, _+_, min}
 use lib.Dec.{eqb, ltb}
 use Rattle.lists.specs.Lists.{tab}
 use Rattle.text.specs.Fields.{fieldAt}
-use Rattle.text.specs.Numbered.{isDash, most}
+use Rattle.text.specs.Numbers.{isDash, most}
 use Rattle.meaning.specs.Line.{Line, valueAt, mostPower, mostProfile}
 use Rattle.meaning.specs.Blocks.{missingPoint}
 

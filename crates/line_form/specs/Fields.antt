@@ -6,7 +6,7 @@ use Prim.Native.Nat.{ℕ, _+_, min}
 use lib.ListN.{replicate}
 use Rattle.lists.specs.Lists.{tab}
 use Rattle.text.specs.Fields.{tabs, fieldAt}
-use Rattle.text.specs.Numbered.{valueOf, most}
+use Rattle.text.specs.Numbers.{valueOf, most}
 use Rattle.meaning.specs.Line.{Line}
 use Rattle.meaning.specs.Refusals.{isIllegible}
 use Rattle.line_form.specs.Shapes.{shapeOf}

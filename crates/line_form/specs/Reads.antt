@@ -3,12 +3,10 @@ use mathlib.Core.Bool.{Bool, _&&_, not}
 use mathlib.Core.List.{List}
 use Prim.Native.Nat.{ℕ, min}
 use Rattle.text.specs.Fields.{past, fieldAt}
-use Rattle.text.specs.Numbered.{isNumber, most}
+use Rattle.text.specs.Numbers.{isNumber, most}
 use Rattle.meaning.specs.Line.{Line, Tag, S, X, D, B, R, E, Form, formsOf, inForm, someField, numberAt, meterOf, kindOf}
 use Rattle.meaning.specs.Blocks.{letterOfKind}
 use Rattle.line_form.specs.Views.{meterShown}
-unfoldable pub use Rattle.line_form.specs.Tags.{knownTag}
-pub use Rattle.line_form.specs.Tags.{sizes}
 use Rattle.line_form.specs.declared.SiteRead.{SiteRead}
 use Rattle.line_form.specs.declared.ReadingRead.{ReadingRead}
 use Rattle.line_form.specs.declared.DailyRead.{DailyRead}

@@ -6,7 +6,7 @@ use lib.Dec.{eqb, ltb}
 use lib.ListN.{replicate}
 use Rattle.lists.specs.Lists.{tab}
 use Rattle.text.specs.Fields.{fieldAt, restAt}
-use Rattle.text.specs.Numbered.{isNumber, valueOf, isDash, most}
+use Rattle.text.specs.Numbers.{isNumber, valueOf, isDash, most}
 use Rattle.meaning.specs.Line.{Line, Tag, C, P, Form, number, numberOrDash, mostPower, mostProfile}
 use Rattle.line_form.specs.Reads.{inForms}
 use Rattle.line_form.specs.Codes.{dash}

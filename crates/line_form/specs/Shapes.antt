@@ -3,7 +3,7 @@ use mathlib.Core.Bool.{cond}
 use mathlib.Core.List.{List, [], _∷_}
 use Prim.Native.Nat.{ℕ}
 use Rattle.text.specs.Fields.{reads, edition}
-use Rattle.text.specs.Numbered.{isNumber}
+use Rattle.text.specs.Numbers.{isNumber}
 
 -- one byte alone, or a field that is no such byte
 unfoldable pub aloneOf : List ℕ → ℕ

@@ -5,9 +5,9 @@ use mathlib.Core.Option.{none}
 use Prim.Native.Nat.{ℕ}
 use lib.Dec.{T}
 use borrow.Author.Tests.{not-false}
+use Rattle.line_checks.specs.Places.{placeOr, keyFor}
 use Rattle.lists.specs.Lists.{any}
-use Rattle.lists.proofs.Laws.{is-true}
-use Rattle.lists.proofs.Tabs.{or-parts}
+use Rattle.lists.proofs.Tests.{is-true, or-parts}
 use Rattle.calendar.specs.declared.Years.{Years}
 use Rattle.calendar.specs.Spans.{among, historyYears}
 use Rattle.calendar.specs.Answers.{winterPlaceOf}
@@ -26,7 +26,7 @@ use Rattle.line_checks.specs.Before.{Known, isReached, beforeLike, beforePoints
 use Rattle.line_checks.specs.Order.{numberBy, firstNumber, isLate}
 use Rattle.line_checks.proofs.Chain.{Asks, clear, barred-late, barred-rank, never-soon, never-falling, never-many, no-count}
 use Rattle.line_checks.proofs.ByTag.{number-is}
-use Rattle.line_steps.specs.Places.{placeOr, keyFor, pointsLate}
+use Rattle.line_steps.specs.Places.{pointsLate}
 use Rattle.line_checks.proofs.Dates.{history-low, key-on, winter-on}
 use Rattle.line_steps.proofs.PointJudged.{DateSays}
 

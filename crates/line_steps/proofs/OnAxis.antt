@@ -5,7 +5,7 @@ use mathlib.Core.Option.{none}
 use Prim.Native.Nat.{ℕ}
 use lib.Dec.{leb, ltb}
 use borrow.Author.Tests.{not-false}
-use Rattle.lists.proofs.Tabs.{or-parts}
+use Rattle.lists.proofs.Tests.{or-parts}
 use Rattle.calendar.specs.declared.Years.{Years}
 use Rattle.calendar.specs.Spans.{among, axisYears, historyYears, positionOf}
 use Rattle.calendar.specs.Answers.{positionIn}

@@ -4,8 +4,6 @@ use Prim.Native.Nat.{ℕ}
 use Rattle.meaning.specs.Filing.{Meter}
 use Rattle.meaning.specs.File.{isIndexMeter}
 use Rattle.line_checks.specs.Order.{isLate}
-unfoldable pub use Rattle.line_checks.specs.Places.{keyFor}
-pub use Rattle.line_checks.specs.Places.{placeOr}
 
 -- 4 of C: out of order, or in an I file
 unfoldable pub pointsLate : ℕ → Meter → Bool

@@ -3,8 +3,7 @@ use mathlib.Core.Option.{Option}
 use Prim.Native.Nat.{ℕ}
 use Rattle.meaning.specs.Line.{Line, Tag, yearOn, winterOn, keyOf}
 use Rattle.meaning.specs.Refusals.{Reason}
-use Rattle.line_checks.specs.Order.{numberBy}
-use Rattle.line_checks.specs.Answers.{whereTaken}
+use Rattle.line_checks.specs.Order.{numberBy, whereTaken}
 use Rattle.line_steps.specs.declared.points_and_profiles.judging.DateJudged.{DateJudged}
 
 -- a refused line: the number alone

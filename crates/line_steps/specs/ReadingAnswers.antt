@@ -7,8 +7,7 @@ use Rattle.text.specs.Fields.{fieldAt}
 use Rattle.meaning.specs.Line.{Line, X, D, numberAt, yearOn, monthOn, dayOn, kindOf, keyOf}
 use Rattle.meaning.specs.Refusals.{Reason}
 use Rattle.meaning.specs.Blocks.{letterOfKind}
-use Rattle.line_checks.specs.Order.{numberBy}
-use Rattle.line_checks.specs.Answers.{whereTaken}
+use Rattle.line_checks.specs.Order.{numberBy, whereTaken}
 use Rattle.line_steps.specs.declared.readings_and_sums.judging.ReadingJudged.{ReadingJudged}
 use Rattle.line_steps.specs.declared.readings_and_sums.judging.DailyJudged.{DailyJudged}
 

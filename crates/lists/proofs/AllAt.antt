@@ -4,16 +4,16 @@ use mathlib.Core.Bool.{Bool, true, false, _&&_}
 use mathlib.Core.Logic.{_⊎_, inl, inr}
 use mathlib.Core.List.{List, [], _∷_}
 use Prim.Native.Nat.{ℕ, zero, suc, _+_, _-_, _≤_, _<_}
-use native.Mathlib.Nat.{zero-add, add-zero, add-suc, suc-add, le-of-suc-le-suc, not-suc-le-zero}
+use native.Mathlib.Nat.{zero-add, add-zero, add-suc, suc-add}
 use native.Mathlib.Numerals.{add-one}
 use native.Mathlib.Omega.{arith}
 use lib.Dec.{T, leb}
 use lib.ListN.{length, getD, take, drop, drop-of-length-le, List·getD-eq-default}
 use lib.Seq.{drop-cons, drop-drop, getD-drop}
 use borrow.Author.Tests.{leb-true, leb-false}
-use Rattle.lists.specs.Lists.{all, allAt, tab}
-use Rattle.lists.proofs.Laws.{is-true}
+use Rattle.lists.specs.Lists.{all, allAt}
 use Rattle.lists.proofs.Snoc.{allAt-at}
+use Rattle.lists.proofs.Tests.{is-true}
 
 and-assoc : (a b c : Bool) → (a && (b && c)) ≡ ((a && b) && c)
 and-assoc true b c = refl
@@ -63,10 +63,6 @@ allAt-all p q i (x ∷ xs) h =
     rw (← add-zero i) (rw (h 0 (omega arith) x, add-zero i, allAt-all p q (suc i) xs (λ k l y. rw (suc-add i k, ← add-suc i k) (h (suc k) (omega arith) y))))
 
 -- ---- what stands in a list
-pub getD-within : {A : Type 0} (xs : List A) (k : ℕ) (d e : A) → k < length xs → getD xs k d ≡ getD xs k e
-getD-within [] k d e h = absurd (not-suc-le-zero h)
-getD-within (x ∷ xs) zero d e h = refl
-getD-within (x ∷ xs) (suc k) d e h = getD-within xs k d e (le-of-suc-le-suc h)
 
 -- a part of a list has no more at a place than the list has further on
 pub getD-part : (n i k : ℕ) (xs : List ℕ) → getD (take n (drop i xs)) k 0 ≤ getD xs (i + k) 0
@@ -92,25 +88,7 @@ allAt-read p xs d t u k = go (leb (length xs) k) refl
     go false e = subst (λ (n : ℕ). T (p n (getD xs k d))) (zero-add k) (allAt-at p 0 xs t k d (leb-false (length xs) k e))
 
 -- ---- a table of places, one less with each turn
-pub tab-on : {A : Type 0} (n k : ℕ) (f : ℕ → A) → k < n → tab (n - k) k f ≡ f k ∷ tab (n - (k + 1)) (k + 1) f
-unfolding tab
-tab-on {A} n k f h = go (n - (k + 1)) (omega arith)
-  where
-    go : (m : ℕ) → n - k ≡ suc m → tab (n - k) k f ≡ f k ∷ tab (n - (k + 1)) (k + 1) f
-    go m e = let g : n - (k + 1) ≡ m = omega arith in rw (e, g, add-one k)
-
-pub tab-end : {A : Type 0} (n k : ℕ) (f : ℕ → A) → n ≤ k → tab (n - k) k f ≡ []
-unfolding tab
-tab-end n k f h = let e : n - k ≡ 0 = omega arith in rw e
-
 -- ---- a walk that stops at the first that does not pass
-pub and-false : (a : Bool) → (a && false) ≡ false
-and-false true = refl
-and-false false = refl
-
-pub and-true : (a : Bool) → (a && true) ≡ a
-and-true true = refl
-and-true false = refl
 
 -- what is to be told is that this one passes, and what is left
 pub stops : {x a : Bool} (b : Bool) → x ≡ (a && b) → a ≡ false → false ≡ x

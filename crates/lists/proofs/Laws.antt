@@ -1,41 +1,17 @@
 -- Laws of the lists' tests and searches.
 use mathlib.Core.Path.{_≡_, refl, ap, _∙_}
 use mathlib.Core.Bool.{Bool, true, false, not, _||_, cond}
-use mathlib.Core.List.{List, [], _∷_, _++_}
+use mathlib.Core.List.{List, [], _∷_, _++_, foldr}
 use mathlib.Core.Option.{Option, some, none}
-use Prim.Native.Nat.{ℕ, zero, suc, _+_, _<_}
+use Prim.Native.Nat.{ℕ, zero, suc, _+_, _≤_, _<_, min}
 use native.Mathlib.Nat.{le-of-suc-le-suc, not-suc-le-zero}
 use native.Mathlib.Omega.{arith}
 use lib.Dec.{T}
 use lib.ListN.{length, getD}
 use Rattle.lists.specs.Lists.{any, firstOf, or, seek, tab, Each, each-nil, each-cons, Some, here, there}
+use Rattle.lists.proofs.Tests.{or-split, is-true}
 
 -- ---- tests
-pub same : (a b : Bool) → (T a → T b) → (T b → T a) → a ≡ b
-same true true f g = refl
-same true false f g = absurd (f tt)
-same false true f g = absurd (g tt)
-same false false f g = refl
-
-pub or-absorb : (a b : Bool) → (T a → T b) → (a || b) ≡ b
-or-absorb true b f = same true b f (λ _. tt)
-or-absorb false b f = refl
-
-pub or-split : (a b : Bool) → T (not (a || b)) → T (not a) × T (not b)
-or-split true b t = absurd t
-or-split false b t = (tt, t)
-
-pub both-not : (b : Bool) → T b → T (not b) → ⊥
-both-not true t n = n
-both-not false t n = t
-
-pub is-false : (b : Bool) → T (not b) → b ≡ false
-is-false true t = absurd t
-is-false false t = refl
-
-pub is-true : (b : Bool) → T b → b ≡ true
-is-true true t = refl
-is-true false t = absurd t
 
 -- ---- any and seek, one more at the end
 pub any-snoc : {A : Type 0} (p : A → Bool) (xs : List A) (x : A) → any p (xs ++ (x ∷ [])) ≡ (any p xs || p x)
@@ -129,3 +105,12 @@ getD-tab (suc n) i f (suc q) d h = getD-tab n (suc i) f q d (le-of-suc-le-suc h)
 
 pub getD-tab0 : {A : Type 0} (n : ℕ) (f : ℕ → A) (q : ℕ) (d : A) → q < n → getD (tab n 0 f) q d ≡ f q
 getD-tab0 n f q d h = getD-tab n 0 f q d h ∙ ap f (omega arith)
+
+-- ---- the least of n and some numbers
+pub least-top : (n : ℕ) (xs : List ℕ) → foldr min n xs ≤ n
+least-top n [] = omega arith
+least-top n (x ∷ xs) = omega (arith, least-top n xs)
+
+pub least-each : (n : ℕ) (xs : List ℕ) → Each (λ x. foldr min n xs ≤ x) xs
+least-each n [] = each-nil
+least-each n (x ∷ xs) = each-cons {x = x} (omega arith) (each-map (λ z (h : foldr min n xs ≤ z). omega arith) (least-each n xs))

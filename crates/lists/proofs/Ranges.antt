@@ -10,18 +10,12 @@ use native.Mathlib.Omega.{arith}
 use lib.Dec.{T}
 use lib.ListN.{length, getD}
 use Rattle.lists.specs.Lists.{any, all, keep, firstOf, tab, range, sum, neighbours}
-use Rattle.lists.proofs.Laws.{same, is-true, any-some, some-any, paired}
+use Rattle.lists.proofs.Laws.{any-some, some-any, paired}
 use Rattle.lists.proofs.Reflect.{of-all}
 use Rattle.lists.proofs.Sums.{each-in, some-in, each-range, in-range}
+use Rattle.lists.proofs.Tests.{same, is-true}
 
 -- ---- tests
-pub and-false : (b : Bool) → (b && false) ≡ false
-and-false true = refl
-and-false false = refl
-
-pub and-true : (b : Bool) → (b && true) ≡ b
-and-true true = refl
-and-true false = refl
 
 -- an element that is there is so whatever stands for a missing one
 pub getD-any : {A : Type 0} (xs : List A) (i : ℕ) (d e : A) → i < length xs → getD xs i d ≡ getD xs i e

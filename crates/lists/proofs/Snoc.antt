@@ -1,6 +1,6 @@
 -- A list that grows or changes by one: one more at the end, one place set, one more that passes, one term of a sum that is larger.
 use mathlib.Core.Path.{_≡_, refl, sym}
-use mathlib.Core.Bool.{Bool, true, false, _&&_, cond}
+use mathlib.Core.Bool.{Bool, true, false, cond}
 use mathlib.Core.List.{List, [], _∷_, _++_}
 use mathlib.Core.Option.{Option, some, none}
 use Prim.Native.Nat.{ℕ, zero, suc, _+_, _≤_, _<_}
@@ -11,6 +11,7 @@ use lib.ListN.{length, getD, set}
 use borrow.Author.Tests.{eqb-true, eqb-false}
 use Rattle.lists.specs.Lists.{or, latest, tab, range, sum, count, allAt}
 use Rattle.lists.proofs.Laws.{or-none}
+use Rattle.lists.proofs.Tests.{and-parts, and-made}
 
 -- ---- one more at the end
 pub latest-snoc : {A B : Type 0} (f : A → Option B) (xs : List A) (x : A) → latest f (xs ++ (x ∷ [])) ≡ or (f x) (latest f xs)
@@ -38,30 +39,23 @@ count-snoc p (y ∷ xs) x = rw (count-snoc p xs x) (more (p y) (p x) (count p xs
     more false false n = refl
 
 -- ---- a test of each element and its place
-both-pass : (a b : Bool) → T (a && b) → T a × T b
-both-pass true b t = (tt, t)
-both-pass false b t = absurd t
-
-pass-both : (a b : Bool) → T a → T b → T (a && b)
-pass-both true b s t = t
-pass-both false b s t = s
 
 pub allAt-map : {A : Type 0} (p q : ℕ → A → Bool) → ((k : ℕ) (x : A) → T (p k x) → T (q k x)) → (i : ℕ) (xs : List A) → T (allAt p i xs) → T (allAt q i xs)
 unfolding allAt
 allAt-map p q h i [] t = tt
 allAt-map p q h i (x ∷ xs) t =
-    let s = both-pass (p i x) (allAt p (suc i) xs) t in
-    pass-both (q i x) (allAt q (suc i) xs) (h i x (s .0)) (allAt-map p q h (suc i) xs (s .1))
+    let s = and-parts (p i x) (allAt p (suc i) xs) t in
+    and-made (q i x) (allAt q (suc i) xs) (h i x (s .0)) (allAt-map p q h (suc i) xs (s .1))
 
 pub allAt-at : {A : Type 0} (p : ℕ → A → Bool) (i : ℕ) (xs : List A) → T (allAt p i xs) → (k : ℕ) (d : A) → k < length xs → T (p (i + k) (getD xs k d))
 unfolding allAt
 allAt-at p i [] t k d h = absurd (not-suc-le-zero h)
-allAt-at p i (x ∷ xs) t zero d h = rw (shift i) (both-pass (p i x) (allAt p (suc i) xs) t .0)
+allAt-at p i (x ∷ xs) t zero d h = rw (shift i) (and-parts (p i x) (allAt p (suc i) xs) t .0)
   where
     shift : (n : ℕ) → n + 0 ≡ n
     shift n = omega arith
 allAt-at p i (x ∷ xs) t (suc k) d h =
-    rw (shift i k) (allAt-at p (suc i) xs (both-pass (p i x) (allAt p (suc i) xs) t .1) k d (le-of-suc-le-suc h))
+    rw (shift i k) (allAt-at p (suc i) xs (and-parts (p i x) (allAt p (suc i) xs) t .1) k d (le-of-suc-le-suc h))
   where
     shift : (n m : ℕ) → n + suc m ≡ suc n + m
     shift n m = omega arith
@@ -71,13 +65,13 @@ pub allAt-set : {A : Type 0} (p : ℕ → A → Bool) (i : ℕ) (xs : List A) (k
     → T (allAt p i (set xs k v))
 unfolding allAt
 allAt-set p i [] k v t h = tt
-allAt-set p i (x ∷ xs) zero v t h = pass-both (p i v) (allAt p (suc i) xs) (rw (shift i) at (h (omega arith))) (both-pass (p i x) (allAt p (suc i) xs) t .1)
+allAt-set p i (x ∷ xs) zero v t h = and-made (p i v) (allAt p (suc i) xs) (rw (shift i) at (h (omega arith))) (and-parts (p i x) (allAt p (suc i) xs) t .1)
   where
     shift : (n : ℕ) → n + 0 ≡ n
     shift n = omega arith
 allAt-set p i (x ∷ xs) (suc k) v t h =
-    let s = both-pass (p i x) (allAt p (suc i) xs) t in
-    pass-both (p i x) (allAt p (suc i) (set xs k v)) (s .0) (allAt-set p (suc i) xs k v (s .1) (λ g. rw (shift i k) at (h (omega arith))))
+    let s = and-parts (p i x) (allAt p (suc i) xs) t in
+    and-made (p i x) (allAt p (suc i) (set xs k v)) (s .0) (allAt-set p (suc i) xs k v (s .1) (λ g. rw (shift i k) at (h (omega arith))))
   where
     shift : (n m : ℕ) → n + suc m ≡ suc n + m
     shift n m = omega arith

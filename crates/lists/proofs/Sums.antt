@@ -9,7 +9,8 @@ use native.Mathlib.Omega.{arith}
 use lib.Dec.{T}
 use lib.ListN.{length}
 use Rattle.lists.specs.Lists.{keep, firstOf, isSome, flat, tab, range, present, sum, count, Each, each-nil, each-cons, Some, here, there}
-use Rattle.lists.proofs.Laws.{is-true, paired, some-map}
+use Rattle.lists.proofs.Laws.{paired, some-map}
+use Rattle.lists.proofs.Tests.{is-true}
 
 -- ---- an element of a list
 abbrev pub In : {A : Type 0} → A → List A → Type 0
@@ -20,10 +21,6 @@ each-in {P = P} r i = let e = paired i r in subst P (e .1) (e .2)
 
 pub some-in : {A : Type 0} {P : A → Type 0} {xs : List A} {x : A} → In x xs → P x → Some P xs
 some-in {P = P} i p = some-map (λ z e. subst P (sym e) p) i
-
-pub each-two : {A : Type 0} {P Q : A → Type 0} {xs : List A} → Each P xs → Each Q xs → Each (λ x. P x × Q x) xs
-each-two each-nil each-nil = each-nil
-each-two (each-cons p r) (each-cons q s) = each-cons (p, q) (each-two r s)
 
 -- where there are elements, the first has what all have
 pub some-first : {A : Type 0} {P : A → Type 0} (xs : List A) → 0 < length xs → ((x : A) → P x) → Some P xs
@@ -102,14 +99,14 @@ some-right : {A : Type 0} {P : A → Type 0} (xs : List A) {ys : List A} → Som
 some-right [] r = r
 some-right (x ∷ xs) r = there (some-right xs r)
 
-each-both : {A : Type 0} {P : A → Type 0} {xs ys : List A} → Each P xs → Each P ys → Each P (xs ++ ys)
-each-both each-nil s = s
-each-both (each-cons p r) s = each-cons p (each-both r s)
+each-append : {A : Type 0} {P : A → Type 0} {xs ys : List A} → Each P xs → Each P ys → Each P (xs ++ ys)
+each-append each-nil s = s
+each-append (each-cons p r) s = each-cons p (each-append r s)
 
 pub each-flat : {A : Type 0} {P : A → Type 0} {xss : List (List A)} → Each (λ xs. Each P xs) xss → Each P (flat xss)
 unfolding flat
 each-flat each-nil = each-nil
-each-flat (each-cons p r) = each-both p (each-flat r)
+each-flat (each-cons p r) = each-append p (each-flat r)
 
 pub some-flat : {A : Type 0} {P : A → Type 0} {xss : List (List A)} → Some (λ xs. Some P xs) xss → Some P (flat xss)
 unfolding flat

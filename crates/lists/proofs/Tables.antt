@@ -1,6 +1,6 @@
 -- Lists as tables: values stored at places and read back, a test of every place, one more element at the end.
 use mathlib.Core.Path.{_≡_, refl, ap, sym, _∙_, subst}
-use mathlib.Core.Bool.{Bool, true, false, not, _&&_, _||_, cond}
+use mathlib.Core.Bool.{Bool, true, false, not, _||_, cond}
 use mathlib.Core.List.{List, [], _∷_, _++_, map}
 use mathlib.Core.Option.{Option, some, none, Option·map}
 use Prim.Native.Nat.{ℕ, zero, suc, _+_, _≤_, _<_}
@@ -12,14 +12,7 @@ use lib.Seq.{sets, getD-set-same, getD-set-other}
 use Rattle.lists.specs.Lists.{any, all, or, seek, latest, tab, present, count, allAt, neighbours, Each, each-nil, each-cons, Some, here, there}
 use Rattle.lists.proofs.Laws.{any-snoc, or-none, seek-snoc, seek-none}
 use Rattle.lists.proofs.Snoc.{count-snoc, allAt-set}
-
-pub and-parts : (a b : Bool) → T (a && b) → T a × T b
-and-parts true b t = (tt, t)
-and-parts false b t = absurd t
-
-pub and-made : (a b : Bool) → T a → T b → T (a && b)
-and-made true b s t = t
-and-made false b s t = s
+use Rattle.lists.proofs.Tests.{and-parts, and-made}
 
 -- ---- some values stored in a row, and read back
 pub getD-sets-other : {A : Type 0} (xs : List A) (a : ℕ) (vs : List A) (i : ℕ) (d : A) → ((k : ℕ) → k < length vs → i ≡ a + k → ⊥)

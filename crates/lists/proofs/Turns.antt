@@ -12,6 +12,13 @@ use lib.Seq.{sets, ext-getD, getD-set-same, getD-set-other}
 use Rattle.lists.proofs.Laws.{length-tab, getD-tab0}
 use Rattle.lists.specs.Lists.{tab}
 
+-- ---- a counter that goes up to n
+pub nearer : (i n : ℕ) → i < n → n - suc i < n - i
+nearer i n l = omega (arith, l)
+
+pub over : (i n : ℕ) → i ≤ n → n ≤ i → i ≡ n
+over i n a b = omega (arith, a, b)
+
 -- ---- what is left of a table of n places from place i on
 pub tab-on : {A : Type 0} (f : ℕ → A) (i n : ℕ) → i < n → tab (n - i) i f ≡ f i ∷ tab (n - (i + 1)) (i + 1) f
 unfolding tab

@@ -11,7 +11,8 @@ use lib.ListN.{length, getD, length-append}
 use borrow.Author.Tests.{eqb-true, eqb-false}
 use Rattle.lists.specs.Lists.{keep, firstOf, or, isSome, seek, latest, flat, tab, range, present, sum, count, neighbours, Each, each-nil, each-cons, Some, here, there}
 use Rattle.lists.specs.Words.{Tally, tally-nil, tally-in, tally-out, First, first-here, first-later, Last, last-here, last-later, Adjacent, next, further}
-use Rattle.lists.proofs.Laws.{both-not, is-true, each-map, first-none}
+use Rattle.lists.proofs.Laws.{each-map, first-none}
+use Rattle.lists.proofs.Tests.{both-not, is-true}
 
 -- ---- some and each
 pub none-some : {A : Type 0} {P : A → Type 0} → ¬ Some P []

@@ -7,23 +7,21 @@ use Prim.Native.Nat.{ℕ, zero, suc, _+_, _≤_, _<_}
 use native.Mathlib.Omega.{arith}
 use lib.Dec.{T, leb, eqb→eq, leb→le}
 use lib.ListN.{length, getD, replicate, getD-replicate}
+use Rattle.lists.proofs.Tests.{and-parts}
 use Rattle.calendar.specs.declared.Years.{Years}
 use Rattle.calendar.specs.Dates.{isDate, isWinter}
 use Rattle.calendar.specs.Spans.{among, axisYears}
 use Rattle.text.specs.Fields.{fieldAt}
-use Rattle.text.specs.Numbered.{isDash, valueOf}
+use Rattle.text.specs.Numbers.{isDash, valueOf}
 use Rattle.meaning.specs.Filing.{Site}
 use Rattle.meaning.specs.Line.{Line, Tag, S, C, X, D, P, B, R, E, other, is, rank, Form, edition, number, numberOrDash, historyYear, axisYear, dateNumber, formsOf, tagOf, inForm, inRange, isMeter, kindOf, isKind, numberAt, yearOn, monthOn, dayOn, siteOn, valueAt, pointOf, hasDateOn, isWinterTag, mostPower, mostIndex, mostDaily, mostProfile}
 use Rattle.meaning.specs.Refusals.{Before, noDate, holds, hasNoDate, refusal}
 use Rattle.meaning.proofs.Passed.{passed, in-form, in-range}
 
 -- ---- tests
-pub both : (a b : Bool) → T (a && b) → T a × T b
-both true b t = (tt, t)
-both false b t = absurd t
 
 pub between : (a n b : ℕ) → T (leb a n && leb n b) → (a ≤ n) × (n ≤ b)
-between a n b t = let p = both (leb a n) (leb n b) t in (leb→le a n (p .0), leb→le n b (p .1))
+between a n b t = let p = and-parts (leb a n) (leb n b) t in (leb→le a n (p .0), leb→le n b (p .1))
 
 -- ---- the fields of a line whose tag is known to be t
 module _ (b : Before) (l : Line) (e : refusal b l ≡ none) (t : Tag) (u : tagOf l ≡ t) where

@@ -1,3 +1,4 @@
+pub mod Lines
 pub mod Passed
 pub mod Accepted
 pub mod Pins

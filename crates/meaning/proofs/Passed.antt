@@ -1,6 +1,6 @@
 -- What an accepted line passed: no condition of 2 to 12 holds of it, and what that says of each of its fields.
 use mathlib.Core.Path.{_≡_, refl}
-use mathlib.Core.Bool.{Bool, true, false, not}
+use mathlib.Core.Bool.{Bool, not}
 use mathlib.Core.List.{List, [], _∷_}
 use mathlib.Core.Option.{none}
 use Prim.Native.Nat.{ℕ, zero, suc, _<_}
@@ -8,7 +8,8 @@ use native.Mathlib.Nat.{le-of-suc-le-suc, not-suc-le-zero}
 use lib.Dec.{T}
 use lib.ListN.{length, getD}
 use Rattle.lists.specs.Lists.{Each, each-cons}
-use Rattle.lists.proofs.Laws.{first-none, or-split}
+use Rattle.lists.proofs.Laws.{first-none}
+use Rattle.lists.proofs.Tests.{or-split, not-not}
 use Rattle.text.specs.Fields.{upTo, past, restAt, fieldAt}
 use Rattle.meaning.specs.Line.{Line, Form, edition, someField, formsOf, inForm, inRange, tagOf}
 use Rattle.meaning.specs.Refusals.{Before, Reason, illegible, unknown, misplaced, malformed, outside, noDate, notLater, tooSoon, falling, tooMany, miscounted, holds, order, refusal, isMalformed, isOutside}
@@ -51,10 +52,6 @@ no-field fails (m ∷ ms) l t (suc k) h = no-field fails ms (past l) (or-split (
 field-after : (l : Line) (k : ℕ) → fieldAt l (suc k) ≡ upTo (restAt (past l) k)
 unfolding fieldAt restAt
 field-after l k = refl
-
-not-not : (b : Bool) → T (not (not b)) → T b
-not-not true t = tt
-not-not false t = t
 
 -- the field after the k-th, from the tag on, is in its form, and its number within its range
 pub in-form : (b : Before) (l : Line) → refusal b l ≡ none → (k : ℕ) → k < length (formsOf (tagOf l)) → T (inForm (getD (formsOf (tagOf l)) k edition) (fieldAt l (suc k)))

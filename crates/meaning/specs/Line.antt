@@ -10,7 +10,7 @@ use Rattle.calendar.specs.Dates.{isWinter}
 use Rattle.calendar.specs.Places.{datePlace, winterPlace}
 use Rattle.calendar.specs.Spans.{axisYears, among}
 use Rattle.text.specs.Fields.{upTo, past, fieldAt, reads, edition as editionText}
-use Rattle.text.specs.Numbered.{isNumber, valueOf, isDash}
+use Rattle.text.specs.Numbers.{isNumber, valueOf, isDash}
 use Rattle.meaning.specs.Filing.{Meter, noMeter, curveMeter, indexMeter, Site, site, Kind, real, corrected, estimated, strange}
 
 -- bytes, without the byte 10 that ends it

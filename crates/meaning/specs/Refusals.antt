@@ -8,8 +8,7 @@ use lib.ListN.{length}
 use Rattle.lists.specs.Lists.{any, firstOf}
 use Rattle.calendar.specs.declared.Years.{Years}
 use Rattle.calendar.specs.Dates.{isDate, isWinter}
-use Rattle.text.specs.Fields.{past, tabs}
-unfoldable pub use Rattle.text.specs.Fields.{isStrange}
+use Rattle.text.specs.Fields.{past, tabs, isStrange}
 use Rattle.meaning.specs.Line.{Line, Tag, S, X, E, is, tagOf, size, formsOf, inForm, inRange, someField, numberAt, yearOn, monthOn, dayOn, siteOn, hasDateOn, isWinterTag, keyOf}
 
 -- what a line is judged by besides itself

@@ -11,8 +11,9 @@ use borrow.Author.Tests.{le-leb, lt-ltb, eq-eqb}
 use Rattle.lists.specs.Lists.{all, tab, range, Each, each-nil, each-cons}
 use Rattle.lists.proofs.Laws.{getD-tab0, length-tab}
 use Rattle.lists.proofs.Reflect.{of-all, of-le}
+use Rattle.lists.proofs.Tests.{and-parts}
 use Rattle.note.specs.Coefficients.{caTable, caIn, firstUsed, isUsed}
-use Rattle.note.proofs.Table.{parts-of, each-at}
+use Rattle.note.proofs.Table.{each-at}
 
 -- ---- the rule as one test of a whole table
 -- whether place k of the table is of a column, in a year used
@@ -48,8 +49,8 @@ table-length = refl
 pub used-years : (c y : ℕ) → T (isUsed c y) → (c < 7) × (firstUsed c ≤ y) × (y ≤ 2021)
 unfolding isUsed
 used-years c y t =
-    let s = parts-of (ltb c 7) (leb (firstUsed c) y && leb y 2021) t in
-    let u = parts-of (leb (firstUsed c) y) (leb y 2021) (s .1) in
+    let s = and-parts (ltb c 7) (leb (firstUsed c) y && leb y 2021) t in
+    let u = and-parts (leb (firstUsed c) y) (leb y 2021) (s .1) in
     (ltb→lt c 7 (s .0), leb→le (firstUsed c) y (u .0), leb→le y 2021 (u .1))
 
 either : (m : ℕ) (b : Bool) (x y : ℕ) → m ≤ x → m ≤ y → m ≤ cond b x y
@@ -113,7 +114,7 @@ module _ (table : List ℕ) (long : 126 ≤ length table) (t : T (isTwofold tabl
       let xs = usedFrom c 0 table in
       let m = leastFrom 9999 xs in
       let r = used-years c y u in
-      let s = parts-of (leb 1 m) (all (λ x. leb x (2 * m)) xs) (column-close table t c (r .0)) in
+      let s = and-parts (leb 1 m) (all (λ x. leb x (2 * m)) xs) (column-close table t c (r .0)) in
       let k = 7 * (y - 2007) + c in
       let e = entry table y c (omega (arith, first-used c)) (omega arith) (r .0) in
       let i = place c y u in
@@ -150,8 +151,8 @@ at-most y c = go ((leb 2007 y && leb y 2024) && ltb c 7) refl
   where
     go : (b : Bool) → ((leb 2007 y && leb y 2024) && ltb c 7) ≡ b → caIn caTable y c ≤ 9999
     go true e =
-        let s = parts-of (leb 2007 y && leb y 2024) (ltb c 7) (rw e tt) in
-        let u = parts-of (leb 2007 y) (leb y 2024) (s .0) in
+        let s = and-parts (leb 2007 y && leb y 2024) (ltb c 7) (rw e tt) in
+        let u = and-parts (leb 2007 y) (leb y 2024) (s .0) in
         let h = leb→le 2007 y (u .0) in
         let g = leb→le y 2024 (u .1) in
         let l = ltb→lt c 7 (s .1) in

@@ -7,8 +7,9 @@ use native.Mathlib.Omega.{arith}
 use lib.Dec.{T, eqb, leb, ltb, leb→le, le→leb}
 use lib.ListN.{length, getD, List·getD-eq-default}
 use borrow.Author.Tests.{ltb-true, ltb-false}
+use Rattle.lists.proofs.Tests.{and-parts}
 use Rattle.note.specs.Coefficients.{thetas, theta, coefficients, coefficientC}
-use Rattle.note.proofs.Table.{parts-of, implied, given, every, at}
+use Rattle.note.proofs.Table.{implied, given, every, at}
 
 -- ---- one test for either table: no entry is above the most, and none but the one of place 0 is 0
 right : ℕ → ℕ → ℕ → Bool
@@ -17,7 +18,7 @@ right most f x = leb x most && implied (leb 1 f) (leb 1 x)
 entry-right : (most : ℕ) (xs : List ℕ) → T (every (right most) 0 xs) → (f : ℕ) → f < length xs → (getD xs f 0 ≤ most) × (1 ≤ f → 0 < getD xs f 0)
 unfolding right
 entry-right most xs t f h =
-    let s = parts-of (leb (getD xs f 0) most) (implied (leb 1 f) (leb 1 (getD xs f 0))) (at (right most) xs t f 0 h) in
+    let s = and-parts (leb (getD xs f 0) most) (implied (leb 1 f) (leb 1 (getD xs f 0))) (at (right most) xs t f 0 h) in
     (leb→le (getD xs f 0) most (s .0), λ g. leb→le 1 (getD xs f 0) (given (leb 1 f) (leb 1 (getD xs f 0)) (s .1) (le→leb 1 f g)))
 
 entry-most : (most : ℕ) (xs : List ℕ) → T (every (right most) 0 xs) → (f : ℕ) → getD xs f 0 ≤ most

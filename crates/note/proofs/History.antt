@@ -7,10 +7,11 @@ use lib.Dec.{T, leb, ltb, leb→le, ltb→lt, le→leb}
 use lib.ListN.{length, getD}
 use borrow.Author.Tests.{leb-true}
 use Rattle.lists.proofs.Reflect.{of-and, of-le, of-lt}
+use Rattle.lists.proofs.Tests.{and-parts}
 use Rattle.calendar.specs.Spans.{among, historyLength, isKnown, historyYears}
 use Rattle.calendar.proofs.Laws.{among-words, known-parts, known-history, has-history, history-year}
 use Rattle.note.specs.Coefficients.{columns, columnOf, caOf, firstUsed, isUsed}
-use Rattle.note.proofs.Table.{parts-of, implied, given, every, at}
+use Rattle.note.proofs.Table.{implied, given, every, at}
 use Rattle.note.proofs.Annual.{twofold, not-zero, at-most}
 
 -- ---- the one test of the columns
@@ -34,7 +35,7 @@ unfolding right columnOf
 column-right f h g =
     let c = getD columns f 7 in
     let b = firstAl f - (historyLength f + 4) in
-    let s = parts-of (ltb c 7) (leb (firstUsed c) b) (given (leb 1 f) (ltb c 7 && leb (firstUsed c) b) (at right columns tested f 7 (omega (arith, columns-length))) (le→leb 1 f h)) in
+    let s = and-parts (ltb c 7) (leb (firstUsed c) b) (given (leb 1 f) (ltb c 7 && leb (firstUsed c) b) (at right columns tested f 7 (omega (arith, columns-length))) (le→leb 1 f h)) in
     (ltb→lt c 7 (s .0), leb→le (firstUsed c) b (s .1))
 
 -- ---- history years

@@ -5,7 +5,6 @@ use Rattle.calendar.specs.Spans.{among, historyYears}
 use Rattle.calendar.proofs.Laws.{history-year}
 use Rattle.note.specs.Peaks.{hasPeaks}
 use Rattle.note.proofs.PeakDays.{peak-year}
-pub use Rattle.note.proofs.History.{known, used, ca-not-zero, ca-twofold, ca-at-most, column-within}
 
 pub peaks : (al f y : ℕ) → T (among (historyYears al f) y) → T (hasPeaks y)
 peaks al f y t = let s = history-year al f y t in peak-year y (s .0) (s .1)

@@ -8,14 +8,17 @@ use native.Mathlib.Omega.{arith}
 use lib.Dec.{T, eqb, leb, ltb, eqb→eq, leb→le}
 use lib.ListN.{length, getD, take, drop, length-take, length-drop}
 use lib.Seq.{getD-take, getD-drop}
-use borrow.Author.Tests.{le-leb, lt-leb}
+use borrow.Author.Tests.{le-leb, lt-leb, lt-ltb}
 use Rattle.lists.specs.Lists.{all, count, sum, tab, Each, each-nil}
-use Rattle.lists.proofs.Laws.{each-map, is-true}
+use Rattle.lists.proofs.Laws.{each-map}
 use Rattle.lists.proofs.Reflect.{of-all, of-and, of-le, of-lt}
+use Rattle.lists.proofs.Tests.{is-true, and-parts}
 use Rattle.calendar.specs.Dates.{leap, monthLengths, longest, daysIn, isDate}
 use Rattle.calendar.specs.Places.{before, monthOf, dayOf, hasDate, dateOfWinter, hasWinterDate}
 use Rattle.note.specs.Peaks.{annex1, dayCounts, hasPeaks, peakCount, peakStart, peakDays, partStart}
-use Rattle.note.proofs.Table.{parts-of, at, everyPart, part-at, rising, ascends, each-at}
+use Rattle.note.specs.Answers.{peakDay}
+use Rattle.note.specs.declared.peaks.PeakDay.the-variants.{Place, Nothing}
+use Rattle.note.proofs.Table.{at, everyPart, part-at, rising, ascends, each-at}
 
 -- ---- the one test of the whole table, year by year
 isCount : ℕ → List ℕ → Bool
@@ -106,16 +109,16 @@ unfolding right isCount
 year-counts y h =
     let row = peakDays y in
     let n = peakCount y in
-    let s = parts-of (isCount n row) (rising row && all (isPlace y) row) (year-right y h) in
-    let u = parts-of (eqb (length row) n) (leb 11 n && leb n 22) (s .0) in
-    let b = parts-of (leb 11 n) (leb n 22) (u .1) in
+    let s = and-parts (isCount n row) (rising row && all (isPlace y) row) (year-right y h) in
+    let u = and-parts (eqb (length row) n) (leb 11 n && leb n 22) (s .0) in
+    let b = and-parts (leb 11 n) (leb n 22) (u .1) in
     (eqb→eq (length row) n (u .0), leb→le 11 n (b .0), leb→le n 22 (b .1))
 
 year-rows : (y : ℕ) → T (hasPeaks y) → T (rising (peakDays y)) × T (all (isPlace y) (peakDays y))
 unfolding right
 year-rows y h =
     let row = peakDays y in
-    parts-of (rising row) (all (isPlace y) row) (parts-of (isCount (peakCount y) row) (rising row && all (isPlace y) row) (year-right y h) .1)
+    and-parts (rising row) (all (isPlace y) row) (and-parts (isCount (peakCount y) row) (rising row && all (isPlace y) row) (year-right y h) .1)
 
 is-place : (y w : ℕ) → T (isPlace y w) ↔ ((w < 152) × T (hasWinterDate y w))
 unfolding isPlace
@@ -187,3 +190,14 @@ start-at i h = eqb→eq (getD starts i 0) (sum (take i dayCounts)) (at isStart s
 pub step-at : (i : ℕ) → i < 15 → getD starts i 0 + getD dayCounts i 0 ≡ getD starts (i + 1) 0
 unfolding isStep starts dayCounts
 step-at i h = eqb→eq (getD starts i 0 + getD dayCounts i 0) (getD starts (i + 1) 0) (at isStep dayCounts tt i 0 h)
+
+-- ---- the answer for a peak day that the year has
+day-is : (y k : ℕ) → k < peakCount y → peakDay y k ≡ Place (getD (peakDays y) k 0)
+unfolding peakDay
+day-is y k h = rw (lt-ltb k (peakCount y) h)
+
+pub place-is : (y k w : ℕ) → k < peakCount y → peakDay y k ≡ Place w → w ≡ getD (peakDays y) k 0
+place-is y k w h e = cc (day-is y k h)
+
+pub not-nothing : (y k : ℕ) → k < peakCount y → peakDay y k ≡ Nothing → ⊥
+not-nothing y k h e = let z : _≡_ {A = ℕ} 0 1 = cc (day-is y k h) in absurd (omega arith)

@@ -3,26 +3,16 @@ use mathlib.Core.Path.{_≡_, refl, sym, _∙_}
 use mathlib.Core.Bool.{Bool, true, false, cond}
 use Prim.Native.Nat.{ℕ, zero, suc, _≤_}
 use native.Mathlib.Omega.{arith}
-use Rattle.meaning.specs.Line.{Line, Tag, S, C, X, D, P, B, R, E, other, rank, tagOf}
+use Rattle.meaning.specs.Line.{Line, Tag, rank, tagOf}
 use Rattle.meaning.specs.Refusals.{isIllegible, isUnknown}
-use Rattle.line_form.specs.Reads.{knownTag}
-use Rattle.line_form.proofs.LetterLaws.{unknown, known-tag}
+use Rattle.meaning.proofs.Lines.{rank-most}
+use Rattle.line_form.specs.Tags.{knownTag}
+use Rattle.line_form.proofs.TagLaws.{unknown, known-tag}
 use Rattle.line_checks.specs.Before.{Known}
 
 -- 3, by the rank of the known tag
 pub known : (t : Tag) (l : Line) (n : ℕ) → isIllegible l ≡ false → n ≡ knownTag l → n ≡ rank t → (rank t ≡ 0 → ⊥) → Known t l
 known t l n e k q h = let p = known-tag t l (sym k ∙ q) h in record { legible = e; known = p .1; tag = p .0 }
-
-rank-most : (t : Tag) → rank t ≤ 8
-rank-most S = omega arith
-rank-most C = omega arith
-rank-most X = omega arith
-rank-most D = omega arith
-rank-most P = omega arith
-rank-most B = omega arith
-rank-most R = omega arith
-rank-most E = omega arith
-rank-most other = omega arith
 
 known-most : (l : Line) → knownTag l ≤ 8
 unfolding knownTag

@@ -12,7 +12,7 @@ use Rattle.pieces.specs.Found.{foundAt}
 use Rattle.site.specs.declared.Opened.{Opened}
 use Rattle.site.specs.Views.{view, handsBack}
 use Rattle.piece_lines.specs.declared.Turn.{Turn}
-use Rattle.piece_lines.specs.Turns.{openedIn, lineOn, turnOf, turnView}
+use Rattle.piece_lines.specs.Turns.{openedIn, lineOn, hasLine, turnOf, turnView}
 use Rattle.piece_lines.proofs.Laws.{turn-less, turn-goes, turn-over}
 use Rattle.piece_lines.specs.Gives.{Gives}
 
@@ -24,21 +24,21 @@ called-again : (o : Opened) (bs : List ℕ) (at : ℕ) (v : World) → handsBack
 unfolding turnOf
 called-again o bs at v = refl
 
-from-first : (o : Opened) (bs : List ℕ) → (turnOf o bs 0) .from ≡ 0
+from-first : (o : Opened) (bs : List ℕ) → (turnOf o bs 0) .next .from ≡ 0
 unfolding turnOf foundAt
 from-first o bs = omega arith
 
-pub given-by : (t : Turn) (bs line : List ℕ) (o : Opened) (r : Turn) (w v : World) → line ≡ lineOn t bs → handsBack o v ≡ lineOf (view (t .«record»)) line w → r ≡ turnOf o bs (t .past) → Gives r t bs w v
+pub given-by : (t : Turn) (bs line : List ℕ) (o : Opened) (r : Turn) (w v : World) → line ≡ lineOn t bs → handsBack o v ≡ lineOf (view (t .«record»)) line w → r ≡ turnOf o bs (t .next .past) → Gives r t bs w v
 given-by t bs line o r w v l c f = record {
-  called = rw f (called-again o bs (t .past) v) ∙ c ∙ ap (λ (x : List ℕ). lineOf (view (t .«record»)) x w) l;
-  found = rw f (found-again o bs (t .past));
+  called = rw f (called-again o bs (t .next .past) v) ∙ c ∙ ap (λ (x : List ℕ). lineOf (view (t .«record»)) x w) l;
+  found = rw f (found-again o bs (t .next .past));
 }
 
 -- ---- the turns of a piece bs, from what a call handed back with the lists w₀
 pub record Going (o : Opened) (bs : List ℕ) (w₀ : World) (t : Turn) (w : World) : Type 0 where
   pub at : ℕ
   pub found : t ≡ turnOf (openedIn t) bs at
-  pub so-far : fed (runOf (handsBack (openedIn t) w) []) (drop (t .from) bs) ≡ fed (runOf (handsBack o w₀) []) bs
+  pub so-far : fed (runOf (handsBack (openedIn t) w) []) (drop (t .next .from) bs) ≡ fed (runOf (handsBack o w₀) []) bs
 
 pub going-first : (o : Opened) (bs : List ℕ) (w₀ : World) (t : Turn) → t ≡ turnOf o bs 0 → Going o bs w₀ t w₀
 going-first o bs w₀ t e = record {
@@ -47,24 +47,24 @@ going-first o bs w₀ t e = record {
   so-far = rw e (first o bs w₀);
 }
   where
-    first : (o : Opened) (bs : List ℕ) (w₀ : World) → fed (runOf (handsBack (openedIn (turnOf o bs 0)) w₀) []) (drop ((turnOf o bs 0) .from) bs) ≡ fed (runOf (handsBack o w₀) []) bs
+    first : (o : Opened) (bs : List ℕ) (w₀ : World) → fed (runOf (handsBack (openedIn (turnOf o bs 0)) w₀) []) (drop ((turnOf o bs 0) .next .from) bs) ≡ fed (runOf (handsBack o w₀) []) bs
     first o bs w₀ = rw (called-again o bs 0 w₀, from-first o bs)
 
 module _ (o : Opened) (bs : List ℕ) (w₀ : World) (t : Turn) (w : World) (g : Going o bs w₀ t w) where
-  module _ (whole : t .whole ≡ true) (r : Turn) (v : World) (given : Gives r t bs w v) where
-    place : r .from ≡ t .past
+  module _ (whole : hasLine t ≡ true) (r : Turn) (v : World) (given : Gives r t bs w v) where
+    place : r .next .from ≡ t .next .past
     unfolding turnOf foundAt
-    place = ap (λ (x : Turn). x .from) (given .found) ∙ omega (arith, turn-less t bs (g .at) (g .found) whole)
+    place = ap (λ (x : Turn). x .next .from) (given .found) ∙ omega (arith, turn-less t bs (g .at) (g .found) whole)
 
     pub going-next : Going o bs w₀ r v
     going-next = record {
-      at = t .past;
+      at = t .next .past;
       found = given .found;
       so-far = rw (given .called, place) (sym (turn-goes t bs (g .at) (g .found) whole w)) ∙ g .so-far;
     }
 
-    pub going-nearer : length bs - r .from < length bs - t .from
+    pub going-nearer : length bs - r .next .from < length bs - t .next .from
     going-nearer = rw place (omega (arith, turn-less t bs (g .at) (g .found) whole))
 
-  pub going-over : t .whole ≡ false → turnView t bs w ≡ fed (runOf (handsBack o w₀) []) bs
+  pub going-over : hasLine t ≡ false → turnView t bs w ≡ fed (runOf (handsBack o w₀) []) bs
   going-over h = sym (turn-over t bs (g .at) (g .found) h w) ∙ g .so-far

@@ -15,18 +15,11 @@ use Rattle.pieces.specs.Parts.{endAt, stepped}
 use Rattle.pieces.proofs.Feeding.{fed-append, kept}
 use Rattle.pieces.proofs.Parts.{end-within, longer-given, longer-held, none-left, turn-fed}
 use Rattle.answers.specs.Views.{answerView}
-use Rattle.pieces.specs.declared.next_lines.Found.{Found}
 use Rattle.pieces.specs.Found.{partOf, leftAt, limitAt, bytesAt, foundAt}
 use Rattle.site.specs.declared.Opened.{Opened}
 use Rattle.site.specs.Views.{view, handsBack}
 use Rattle.piece_lines.specs.declared.Turn.{Turn}
-use Rattle.piece_lines.specs.Turns.{turnOf, openedIn, lineOn, turnView}
-
--- ---- the turn by the line found
-pub turn-is : (o : Opened) (bs : List ℕ) (at : ℕ) (f : Found) (w : Bool) → f ≡ foundAt bs at → w ≡ (not (isAnswered (answerView (o .answer))) && f .whole)
-    → record { «record» = o .«record»; answer = o .answer; from = f .from; to = f .to; past = f .past; whole = w } ≡ turnOf o bs at
-unfolding turnOf
-turn-is o bs at f w p t = rw (t, p)
+use Rattle.piece_lines.specs.Turns.{turnOf, hasLine, openedIn, lineOn, turnView}
 
 -- ---- the next turn of a run
 not-and : (a b : Bool) → (not a && b) ≡ true → (a ≡ false) × (b ≡ true)
@@ -78,21 +71,21 @@ or-some e n i h = go (ltb e n) refl h
     go false q k = omega (arith, ltb-true 320 e k)
 
 module _ (t : Turn) (bs : List ℕ) (at : ℕ) (found : t ≡ turnOf (openedIn t) bs at) where
-  from-is : t .from ≡ min at (length bs)
+  from-is : t .next .from ≡ min at (length bs)
   unfolding turnOf foundAt
-  from-is = ap (λ (x : Turn). x .from) found
+  from-is = ap (λ (x : Turn). x .next .from) found
 
-  to-is : t .to ≡ min at (length bs) + bytesAt bs at
+  to-is : t .next .to ≡ min at (length bs) + bytesAt bs at
   unfolding turnOf foundAt
-  to-is = ap (λ (x : Turn). x .to) found
+  to-is = ap (λ (x : Turn). x .next .to) found
 
-  past-is : t .past ≡ min at (length bs) + min (bytesAt bs at + 1) (limitAt bs at)
+  past-is : t .next .past ≡ min at (length bs) + min (bytesAt bs at + 1) (limitAt bs at)
   unfolding turnOf foundAt
-  past-is = ap (λ (x : Turn). x .past) found
+  past-is = ap (λ (x : Turn). x .next .past) found
 
-  whole-is : t .whole ≡ (not (isAnswered (answerView (t .answer))) && (ltb (bytesAt bs at) (limitAt bs at) || ltb 320 (bytesAt bs at)))
+  whole-is : hasLine t ≡ (not (isAnswered (answerView (t .answer))) && (ltb (bytesAt bs at) (limitAt bs at) || ltb 320 (bytesAt bs at)))
   unfolding turnOf foundAt
-  whole-is = ap (λ (x : Turn). x .whole) found
+  whole-is = ap (λ (x : Turn). not (isAnswered (answerView (t .answer))) && x .next .whole) found
 
   bytes-within : bytesAt bs at ≤ limitAt bs at
   bytes-within = omega (arith, end-within (take (limitAt bs at) (leftAt bs at)), length-take (limitAt bs at) (leftAt bs at))
@@ -101,7 +94,7 @@ module _ (t : Turn) (bs : List ℕ) (at : ℕ) (found : t ≡ turnOf (openedIn t
   unfolding partOf
   line-is = let z : min at (length bs) + bytesAt bs at - min at (length bs) ≡ bytesAt bs at = omega arith in rw (from-is, to-is, z)
 
-  module _ (whole : t .whole ≡ true) where
+  module _ (whole : hasLine t ≡ true) where
     given-now : (isAnswered (answerView (t .answer)) ≡ false) × ((ltb (bytesAt bs at) (limitAt bs at) || ltb 320 (bytesAt bs at)) ≡ true)
     given-now = not-and (isAnswered (answerView (t .answer))) (ltb (bytesAt bs at) (limitAt bs at) || ltb 320 (bytesAt bs at)) (sym whole-is ∙ whole)
 
@@ -109,21 +102,21 @@ module _ (t : Turn) (bs : List ℕ) (at : ℕ) (found : t ≡ turnOf (openedIn t
     some-left = or-some (bytesAt bs at) (limitAt bs at) bytes-within (given-now .1)
 
     -- what is left is shorter
-    pub turn-less : (t .from < t .past) × (t .past ≤ length bs)
+    pub turn-less : (t .next .from < t .next .past) × (t .next .past ≤ length bs)
     turn-less = (omega (arith, from-is, past-is, some-left), omega (arith, past-is, length-drop (min at (length bs)) bs))
 
     -- the next line is given
-    pub turn-goes : (w : World) → fed (runOf (handsBack (openedIn t) w) []) (drop (t .from) bs) ≡ fed (runOf (lineOf (view (t .«record»)) (lineOn t bs) w) []) (drop (t .past) bs)
+    pub turn-goes : (w : World) → fed (runOf (handsBack (openedIn t) w) []) (drop (t .next .from) bs) ≡ fed (runOf (lineOf (view (t .«record»)) (lineOn t bs) w) []) (drop (t .next .past) bs)
     turn-goes w =
         rw (line-is, from-is, past-is)
         (line-given (handsBack (openedIn t) w) bs (min at (length bs)) (limitAt bs at) (bytesAt bs at) (given-now .0) refl refl (given-now .1) some-left)
 
   -- no line is left to give
-  pub turn-over : t .whole ≡ false → (w : World) → fed (runOf (handsBack (openedIn t) w) []) (drop (t .from) bs) ≡ turnView t bs w
+  pub turn-over : hasLine t ≡ false → (w : World) → fed (runOf (handsBack (openedIn t) w) []) (drop (t .next .from) bs) ≡ turnView t bs w
   unfolding turnView
   turn-over h w = go (isAnswered (answerView (t .answer))) refl (sym whole-is ∙ h)
     where
       go : (a : Bool) → isAnswered (answerView (t .answer)) ≡ a → (not a && (ltb (bytesAt bs at) (limitAt bs at) || ltb 320 (bytesAt bs at))) ≡ false
-          → fed (runOf (handsBack (openedIn t) w) []) (drop (t .from) bs) ≡ runOf (handsBack (openedIn t) w) (cond a [] (drop (t .from) bs))
-      go true q k = kept (runOf (handsBack (openedIn t) w) []) (drop (t .from) bs) q
+          → fed (runOf (handsBack (openedIn t) w) []) (drop (t .next .from) bs) ≡ runOf (handsBack (openedIn t) w) (cond a [] (drop (t .next .from) bs))
+      go true q k = kept (runOf (handsBack (openedIn t) w) []) (drop (t .next .from) bs) q
       go false q k = rw from-is (line-begun (handsBack (openedIn t) w) bs (min at (length bs)) (limitAt bs at) (bytesAt bs at) q refl refl k)

@@ -11,4 +11,4 @@ use Rattle.piece_lines.specs.Turns.{openedIn, lineOn, turnOf}
 -- from turn t over the piece bs to turn r, and from the lists w to the lists v: the call of the line, and the place after it
 pub record Gives (r t : Turn) (bs : List ℕ) (w v : World) : Type 0 where
   pub called : handsBack (openedIn r) v ≡ lineOf (view (t .«record»)) (lineOn t bs) w
-  pub found : r ≡ turnOf (openedIn r) bs (t .past)
+  pub found : r ≡ turnOf (openedIn r) bs (t .next .past)

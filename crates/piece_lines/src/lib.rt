@@ -9,19 +9,17 @@ mod own; // the same for readings in an array of the caller's
 
 use answers::Answer;
 pub use own::give_own;
+use pieces::Found;
 use readings::Reading;
 use site::Record;
 
+// A run between two lines of a piece.
 pub struct Turn {
     // after the lines given so far
     pub record: Record,
     pub answer: Answer,
-    // the next line: its first byte, its end, and what comes after it
-    pub from: usize,
-    pub to: usize,
-    pub past: usize,
-    // whether it is to be given: it has its byte 10 or its 321st byte, and there is no answer yet
-    pub whole: bool,
+    // the next line; it is given where it is whole and there is no answer yet
+    pub next: Found,
 }
 
 // After the lines of a piece.

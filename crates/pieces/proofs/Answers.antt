@@ -8,7 +8,7 @@ use native.Mathlib.Omega.{arith}
 use lib.Dec.{T, eqb, ltb}
 use lib.ListN.{length, length-append}
 use borrow.Author.Tests.{ltb-true, ltb-false}
-use Rattle.lists.proofs.Laws.{is-true}
+use Rattle.lists.proofs.Tests.{is-true}
 use Rattle.meaning.specs.Line.{Line}
 use Rattle.meaning.specs.Refusals.{Reason}
 use Rattle.meaning.specs.File.{refusalAt}

@@ -8,8 +8,9 @@ use lib.Dec.{ltb}
 use lib.ListN.{length, take, drop, length-take, length-drop, drop-of-length-le}
 use lib.Seq.{take-all}
 use borrow.Author.Tests.{ltb-true, ltb-false}
+use Rattle.text.proofs.Laws.{rest-of}
 use Rattle.pieces.specs.Parts.{endAt}
-use Rattle.pieces.proofs.Parts.{end-within, rest-is}
+use Rattle.pieces.proofs.Parts.{end-within}
 use Rattle.pieces.specs.Found.{partOf, foundAt}
 
 -- ---- a part whose ends are within the piece
@@ -54,4 +55,4 @@ pub line-is : (bs : List ℕ) (at f n e u : ℕ) (w : Bool) → f ≡ min at (le
     → e ≡ endAt (take n (take (length bs - f) (drop f bs))) → u ≡ min (e + 1) n → w ≡ (ltb e n || ltb 320 e)
     → record { from = f; to = f + e; past = f + u; whole = w } ≡ foundAt bs at
 unfolding foundAt
-line-is bs at f n e u w p q r s t = rw (t, s, r, q, rest-is bs f, p)
+line-is bs at f n e u w p q r s t = rw (t, s, r, q, rest-of bs f, p)

@@ -3,10 +3,10 @@ use mathlib.Core.Path.{_≡_, refl, ap, _∙_}
 use mathlib.Core.Logic.{_≢_}
 use mathlib.Core.List.{List, [], _∷_, _++_}
 use Prim.Native.Nat.{ℕ}
-use borrow.Author.Tests.{ne-eqb}
 use Rattle.lists.specs.Lists.{Each, each-nil, each-cons}
 use Rattle.meaning.specs.Line.{Line}
 use Rattle.meaning.specs.Input.{ahead, linesOf}
+use Rattle.meaning.proofs.Lines.{lines-next}
 
 -- no byte ends the line
 abbrev pub Endless : Line → Type 0
@@ -30,10 +30,6 @@ ahead-joined : (b : ℕ) (c : Line) (ls : List Line) → ahead b (joined c ls) �
 unfolding ahead joined
 ahead-joined b c [] = refl
 ahead-joined b c (l ∷ ls) = refl
-
-lines-next : (b : ℕ) (bs : List ℕ) → b ≢ 10 → linesOf (b ∷ bs) ≡ ahead b (linesOf bs)
-unfolding linesOf
-lines-next b bs h = rw (ne-eqb b 10 h)
 
 pub lines-begun : (b : ℕ) (c : Line) (bs : List ℕ) → Endless (b ∷ c) → linesOf ((b ∷ c) ++ bs) ≡ joined (b ∷ c) (linesOf bs)
 lines-begun b [] bs (each-cons h r) = lines-next b bs h ∙ ahead-first b (linesOf bs)

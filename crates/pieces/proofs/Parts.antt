@@ -7,8 +7,8 @@ use Prim.Native.Nat.{ℕ, zero, suc, _+_, _-_, _≤_, _<_, min}
 use native.Mathlib.Numerals.{add-one}
 use native.Mathlib.Omega.{arith}
 use lib.Dec.{eqb, ltb}
-use lib.ListN.{length, take, drop, getD, length-append, length-take, length-drop, drop-of-length-le}
-use lib.Seq.{drop-cons, take-suc, take-all, getD-take}
+use lib.ListN.{length, take, drop, getD, length-append, length-take, drop-of-length-le}
+use lib.Seq.{drop-cons, take-suc, getD-take}
 use borrow.Author.Tests.{eq-eqb, ne-eqb, eqb-true, eqb-false, lt-ltb, le-ltb, ltb-true, ltb-false}
 use Rattle.lists.specs.Lists.{each-nil, each-cons}
 use Rattle.meaning.specs.Line.{Line}
@@ -74,10 +74,6 @@ pub none-left : (r : Run) (t : List ℕ) → length t ≤ 0 → fed r t ≡ r
 unfolding fed
 none-left r [] h = refl
 none-left r (b ∷ t) h = absurd (omega arith)
-
--- what `&t[k..]` holds
-pub rest-is : (t : List ℕ) (k : ℕ) → take (length t - k) (drop k t) ≡ drop k t
-rest-is t k = take-all (length t - k) (drop k t) (omega (arith, length-drop k t))
 
 -- ---- bytes that end no line
 module _ (o : Out) (h : isAnswered (o .answer) ≡ false) where

@@ -5,7 +5,7 @@ use Prim.Native.Nat.{ℕ, _≤_}
 use native.Mathlib.Omega.{arith}
 use Rattle.lists.specs.Lists.{Each, each-nil, each-cons, flat}
 use Rattle.text.specs.Fields.{fieldAt, upTo, past}
-use Rattle.text.specs.Numbered.{valueOf}
+use Rattle.text.specs.Numbers.{valueOf}
 use Rattle.text.proofs.Laws.{up-joined, field-first, field-next}
 use Rattle.text.specs.Digits.{digitsOf}
 use Rattle.text.proofs.Digits.{digits-each, value-digits}

@@ -5,8 +5,8 @@ ghost use Prim.Native.Nat.{min};
 ghost use lib.Dec.{ltb};
 ghost use Rattle.pieces.specs.Parts.{endAt};
 
-// A line is refused at its 321st byte, so it is whole by then.
-const ROOM: usize = 321;
+// A line is refused at its 321st byte: it is whole by then, and no more of it is held.
+pub(crate) const ROOM: usize = 321;
 
 // How many bytes stand before the first byte 10.
 pub(crate) fn end(text: &[u8]) -> usize

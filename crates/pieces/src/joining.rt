@@ -1,4 +1,5 @@
 // The line begun: its bytes, which are held from piece to piece.
+use crate::begun::ROOM;
 use crate::begun::end;
 use crate::begun::is_whole;
 use crate::begun::least;
@@ -15,9 +16,6 @@ pub struct Joined {
     // whether it is to be given
     pub whole: bool,
 }
-
-// A line is refused at its 321st byte, so no more are held.
-const ROOM: usize = 321;
 
 // How many of the bytes left a line can take that has some already.
 fn room(held: usize, left: usize) -> usize

@@ -1,12 +1,10 @@
 // The next line of a piece of the input, from a place on.
+use crate::begun::ROOM;
 use crate::begun::end;
 use crate::begun::is_whole;
 use crate::begun::least;
 ghost use mathlib.Core.Path.{_≡_};
 ghost use Rattle.pieces.specs.Found.{partOf, foundAt};
-
-// A line is whole at its 321st byte, if not at its byte 10.
-const MOST: usize = 321;
 
 // Its first byte, its end, and what comes after it; whether it has its byte 10 or its 321st byte.
 pub struct Found {
@@ -31,7 +29,7 @@ pub fn next_line(piece: &[u8], at: usize) -> Found
 {
     let from = least(at, piece.len());
     let left = &piece[from..];
-    let limit = least(MOST, left.len());
+    let limit = least(ROOM, left.len());
     let bytes = end(&left[..limit]);
     let used = least(bytes + 1, limit);
     Found {

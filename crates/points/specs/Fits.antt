@@ -7,10 +7,9 @@ use Rattle.meaning.specs.Blocks.{slotsSize}
 use Rattle.points.specs.declared.own.Basis.{Basis}
 use Rattle.points.specs.Sources.{Day}
 -- of a point's code, a list's numbers, and a site's basis and CA
-unfoldable pub use Rattle.points.specs.OwnFits.{isPoint}
-pub use Rattle.points.specs.OwnFits.{PointsFit, BasisFits}
-pub use Rattle.points.specs.DonorFits.{CasFit}
-pub use Rattle.history.specs.Fits.{AtMost}
+use Rattle.points.specs.OwnFits.{PointsFit}
+use Rattle.points.specs.DonorFits.{CasFit}
+use Rattle.history.specs.Fits.{AtMost}
 
 -- a rate's code: none, or 10 to 1000 thousandths
 pub record RateFits (r : ℕ) : Type 0 where

@@ -8,7 +8,7 @@ use lib.ListN.{getD}
 use Rattle.meaning.specs.Points.{Source}
 use Rattle.meaning.specs.Blocks.{missingPoint}
 use Rattle.rounding.specs.Points.{mostPoint}
-use Rattle.validity.specs.Rows.{rowOf}
+use Rattle.blocks.specs.Rows.{rowOf}
 use Rattle.points.specs.declared.own.Basis.{Basis}
 use Rattle.points.specs.declared.own.Filled.{Filled}
 use Rattle.points.specs.Filled.{filledOf}

@@ -5,7 +5,7 @@ use Prim.Native.Nat.{ℕ, _+_, _*_}
 use lib.ListN.{getD}
 use Rattle.meaning.specs.Points.{Origin, byProfile, readBy}
 use Rattle.meaning.specs.Blocks.{missingPoint, rowSize, slotAt, pointOfCode}
-use Rattle.validity.specs.Rows.{rowOf}
+use Rattle.blocks.specs.Rows.{rowOf}
 
 -- ---- look-ups: y is a year, k its number from the oldest history year, w a winter place, h a half-hour
 -- the point's code in the year's row

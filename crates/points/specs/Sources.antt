@@ -4,7 +4,6 @@ use Prim.Native.Nat.{ℕ, _+_}
 use lib.ListN.{getD}
 use Rattle.meaning.specs.Cases.{Case, caseM, case1, case2, case3, case4, caseP, case5, case6}
 use Rattle.meaning.specs.Points.{Donor, Source, own, fromDefault, ownOf, rebuiltBy}
-unfoldable pub use Rattle.history.specs.Years.{bit, positionIn, casFrom}
 use Rattle.points.specs.declared.own.Basis.{Basis}
 use Rattle.points.specs.OwnGiven.{readIn, profileIn, profiledOn}
 use Rattle.points.specs.DonorsGiven.{curveGiven, indexGiven, donorsAmong}

@@ -8,6 +8,7 @@ use native.Mathlib.Omega.{arith}
 use lib.Dec.{T, eqb}
 use lib.ListN.{set}
 use borrow.Author.Tests.{ne-eqb}
+use Rattle.readings.specs.Columns.{world}
 use Rattle.text.specs.Fields.{fieldAt}
 use Rattle.meaning.specs.Filing.{Kind, real, corrected, estimated, strange, Reading, reading}
 use Rattle.meaning.specs.Line.{Line, X, is, tagOf, numberAt, kindOf, isKind, kindOfLetter}
@@ -17,7 +18,7 @@ use Rattle.meaning.specs.Record.{Rec, inState, axisOfRec, beforeOf}
 use Rattle.meaning.specs.Calls.{judged, positionOn, readingAt, recAfter, worldAfter}
 use Rattle.meaning.proofs.Accepted.{is-tag, kind-in}
 use Rattle.line_checks.proofs.Chain.{number-above}
-use Rattle.progress.specs.Steps.{Stepped, world, lineBlocks, blocksAfter, stepBy, stepOf, answerOf, heard}
+use Rattle.progress.specs.Steps.{Stepped, lineBlocks, blocksAfter, stepBy, stepOf, answerOf, heard}
 use Rattle.progress.proofs.Changed.{reading-place}
 
 kind-back : (k : Kind) → kindOfLetter (letterOfKind k) ≡ k

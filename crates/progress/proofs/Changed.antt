@@ -9,7 +9,8 @@ use lib.Dec.{T, leb}
 use lib.ListN.{getD, set}
 use lib.Seq.{sets}
 use borrow.Author.Tests.{leb-false}
-use Rattle.lists.proofs.Laws.{is-false}
+use Rattle.blocks.specs.PointStores.{RowPlace, nearPut, farPut}
+use Rattle.lists.proofs.Tests.{is-false}
 use Rattle.calendar.specs.declared.Years.{Years}
 use Rattle.calendar.specs.Dates.{isDate}
 use Rattle.calendar.specs.Spans.{among, historyYears, axisYears, positionOf}
@@ -23,7 +24,7 @@ use Rattle.meaning.specs.Calls.{recAfter, worldAfter, lastsAfter, talliesAfter,
 use Rattle.meaning.proofs.Passed.{passed}
 use Rattle.meaning.proofs.Accepted.{accepted-C, accepted-P, accepted-D, accepted-X}
 use Rattle.line_form.specs.Codes.{pointRow, profileRow}
-use Rattle.blocks.specs.Stores.{RowPlace, nearPut, farPut, slotsPut}
+use Rattle.blocks.specs.Stores.{slotsPut}
 use Rattle.progress.specs.Steps.{withNone, blocksAfter, stepOf, noBlock, pointBlocks, slotBlock, dailyBlock}
 use Rattle.progress.proofs.Steps.{step-took}
 use Rattle.progress.proofs.Rows.{Row, history-row, axis-row, row-place, site-given, history-given, axis-given}

@@ -6,18 +6,19 @@ use mathlib.Core.Option.{some, none}
 use Prim.Native.Nat.{ℕ, _+_, _≤_, min}
 use native.Mathlib.Omega.{arith}
 use borrow.Author.Tests.{le-leb}
+use Rattle.blocks.specs.PointStores.{pointCode}
 use Rattle.lists.specs.Lists.{tab}
-use Rattle.lists.proofs.Tabs.{map-tab}
 use Rattle.lists.proofs.Tables.{tab-same}
+use Rattle.lists.proofs.Ranges.{map-tab}
 use Rattle.text.specs.Fields.{fieldAt}
-use Rattle.text.specs.Numbered.{isDash, most}
+use Rattle.text.specs.Numbers.{isDash, most}
 use Rattle.meaning.specs.Line.{Line, C, P, tagOf, valueAt, pointOf, mostPower, mostProfile}
 use Rattle.meaning.specs.Refusals.{Before, refusal}
 use Rattle.meaning.specs.Blocks.{codeOfPoint}
 use Rattle.meaning.specs.Calls.{pointCodes, profileValues}
 use Rattle.meaning.proofs.Accepted.{PointFits, point-in, profile-in}
 use Rattle.line_form.specs.Codes.{dash, pointRow, profileRow}
-use Rattle.blocks.specs.Stores.{pointCode, profileCode}
+use Rattle.blocks.specs.Stores.{profileCode}
 
 one-point : (d : Bool) (v : ℕ) → PointFits (cond d none (some v)) → pointCode (cond d dash (min v most)) ≡ codeOfPoint (cond d none (some v))
 unfolding PointFits pointCode codeOfPoint

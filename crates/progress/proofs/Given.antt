@@ -5,6 +5,7 @@ use Prim.Native.Nat.{ℕ, zero, suc, _≤_, _<_}
 use native.Mathlib.Omega.{arith}
 use lib.Dec.{eqb, leb}
 use borrow.Author.Tests.{le-leb, lt-leb, ne-eqb}
+use Rattle.lists.proofs.Tests.{or-false}
 use Rattle.meaning.specs.Record.{isWithin}
 use Rattle.progress.specs.SiteRanges.{givenFits}
 
@@ -12,10 +13,6 @@ zero-fits : (t : Bool) (b n : ℕ) → ((t && eqb n 0) || leb n b) ≡ leb n b
 zero-fits true b zero = rw (le-leb 0 b (omega arith))
 zero-fits true b (suc n) = rw (ne-eqb (suc n) 0 (λ (e : suc n ≡ 0). omega arith))
 zero-fits false b n = refl
-
-or-false : (b : Bool) → (b || false) ≡ b
-or-false true = refl
-or-false false = refl
 
 pub reaches : (t : Bool) (a b n : ℕ) → a ≤ n → leb n b ≡ givenFits t a b n
 unfolding givenFits isWithin

@@ -5,6 +5,5 @@ pub mod Codes
 pub mod Changed
 pub mod Calls
 pub mod Spans
-pub mod Walks
 pub mod Zero
 pub mod Given

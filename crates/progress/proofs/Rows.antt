@@ -16,7 +16,7 @@ use Rattle.meaning.specs.Line.{mostIndex}
 use Rattle.meaning.specs.Refusals.{isTooSoon, mostReadings}
 use Rattle.meaning.specs.Closing.{allWinterDates, allDates}
 use Rattle.meaning.specs.Record.{Rec, recFits, siteFits, lastsFit, talliesFit, eachYear, isWithin, isTaken, siteOfRec, historyOfSite, historyOfRec, axisOfRec}
-use Rattle.blocks.specs.Stores.{RowPlace}
+use Rattle.blocks.specs.PointStores.{RowPlace}
 use Rattle.progress.specs.Steps.{FewDates}
 
 -- ---- a record whose history has a year has taken S

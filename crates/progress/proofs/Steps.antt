@@ -3,6 +3,7 @@ use mathlib.Core.Path.{_≡_, refl}
 use mathlib.Core.Bool.{true, false, cond}
 use mathlib.Core.Option.{Option, some, none}
 use Prim.Native.Nat.{ℕ}
+use Rattle.readings.specs.Columns.{world}
 use Rattle.lists.specs.Lists.{firstOf}
 use Rattle.text.specs.Fields.{fieldAt}
 use Rattle.meaning.specs.Line.{Line, Tag, S, C, X, D, P, B, R, E, is, tagOf, numberAt, kindOf}
@@ -14,7 +15,7 @@ use Rattle.line_checks.specs.Order.{numberBy}
 use Rattle.progress.specs.declared.Progress.{Progress}
 use Rattle.progress.specs.declared.Step.{Step}
 use Rattle.progress.specs.ProgressViews.{openRec, stepView, noReading}
-use Rattle.progress.specs.Steps.{Stepped, withNone, world, blocksAfter, stepBy, stepOf, noBlock, pointBlocks, slotBlock, dailyBlock}
+use Rattle.progress.specs.Steps.{Stepped, withNone, blocksAfter, stepBy, stepOf, noBlock, pointBlocks, slotBlock, dailyBlock}
 
 module _ (s : Rec) (l : Line) (w : World) where
   pub step-2 : isIllegible l ≡ true → withNone 2 s w ≡ stepOf s l w

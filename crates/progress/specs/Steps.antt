@@ -13,7 +13,7 @@ use Rattle.meaning.specs.Blocks.{World, letterOfKind, pointsSize, slotsSize, da
 use Rattle.meaning.specs.Record.{Rec, inState, axisOfRec, beforeOf}
 use Rattle.meaning.specs.Calls.{Answer, Out, out, took, refused, positionOn, recAfter, worldAfter}
 -- the lent lists
-pub use Rattle.readings.specs.Columns.{world}
+use Rattle.readings.specs.Columns.{world}
 
 pub record Stepped : Type 0 where
   -- 0 taken, else the refusal's number

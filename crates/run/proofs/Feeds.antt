@@ -1,15 +1,17 @@
 -- A piece: the line begun goes on or is given, and what is left after the lines given is a line begun.
 use mathlib.Core.Path.{_≡_, refl, ap, sym, _∙_}
-use mathlib.Core.Bool.{Bool, true, false, _||_, cond, true≢false}
+use mathlib.Core.Bool.{Bool, true, false, _||_, cond}
 use mathlib.Core.List.{List, [], _∷_, _++_}
 use Prim.Native.Nat.{ℕ, _+_, _-_, _≤_, _<_, min}
 use native.Mathlib.Omega.{arith}
 use lib.Dec.{eqb, ltb}
-use lib.ListN.{length, take, drop, length-append, length-take, drop-of-length-le, take-append-drop}
+use lib.ListN.{length, take, drop, length-append, length-take, take-append-drop}
 use lib.Seq.{take-all}
 use borrow.Author.Tests.{ltb-true, ltb-false}
+use Rattle.lists.proofs.Tests.{or-parts}
 use Rattle.text.specs.Written.{written}
 use Rattle.text.proofs.Written.{length-written, take-written}
+use Rattle.text.proofs.Laws.{rest-of, drop-min}
 use Rattle.meaning.specs.Line.{Line}
 use Rattle.meaning.specs.Blocks.{World}
 use Rattle.meaning.specs.Calls.{Out, lineOf}
@@ -17,7 +19,7 @@ use Rattle.pieces.specs.Run.{Run, runOf, isAnswered, given, longer, fedByte, fe
 use Rattle.pieces.specs.Parts.{stepped}
 use Rattle.pieces.proofs.Lines.{Endless}
 use Rattle.pieces.proofs.Feeding.{fed-append}
-use Rattle.pieces.proofs.Parts.{end-endless, longer-given, rest-is, fed-begun, turn-fed}
+use Rattle.pieces.proofs.Parts.{end-endless, longer-given, fed-begun, turn-fed}
 use Rattle.pieces.specs.declared.joining.Joined.{Joined}
 use Rattle.pieces.specs.Joined.{heldOf, limitOf, addedOf, joinedOf}
 use Rattle.pieces.proofs.Joins.{bytes-fit}
@@ -54,18 +56,8 @@ fed-short [] r h = h
 fed-short (b ∷ bs) r h = fed-short bs (fedByte r b) (byte-short r b h)
 
 -- ---- what is left is held
-drop-least : (n : ℕ) (l : List ℕ) → drop (min n (length l)) l ≡ drop n l
-drop-least n l = go (ltb (length l) n) refl
-  where
-    go : (b : Bool) → ltb (length l) n ≡ b → drop (min n (length l)) l ≡ drop n l
-    go true e =
-        let q : min n (length l) ≡ length l = omega (arith, ltb-true (length l) n e) in
-        let a : length l ≤ length l = omega arith in
-        let b : length l ≤ n = omega (arith, ltb-true (length l) n e) in
-        rw q (drop-of-length-le l a ∙ sym (drop-of-length-le l b))
-    go false e = let q : min n (length l) ≡ n = omega (arith, ltb-false (length l) n e) in rw q
 
-begun-of : (t : KeptTurn) (bs : List ℕ) (v : World) → (turnView (t .turn) bs v) .begun ≡ cond (isAnswered (answerView (t .turn .answer))) [] (drop (t .turn .from) bs)
+begun-of : (t : KeptTurn) (bs : List ℕ) (v : World) → (turnView (t .turn) bs v) .begun ≡ cond (isAnswered (answerView (t .turn .answer))) [] (drop (t .turn .next .from) bs)
 unfolding turnView
 begun-of t bs v = refl
 
@@ -73,13 +65,13 @@ held-view : (g : KeptTurn) (line bs : List ℕ) (v : World) → length line ≡ 
 unfolding heldWith turnView
 held-view g line bs v long short = go (isAnswered (answerView (g .turn .answer))) (rw (begun-of g bs v) at short)
   where
-    go : (a : Bool) → length (cond a [] (drop (g .turn .from) bs)) ≤ 320
-        → runOf (handsBack (openedIn (g .turn)) v) (take (min (cond a 0 (length (leftOf g bs))) 320) (written line 0 (leftOf g bs))) ≡ runOf (handsBack (openedIn (g .turn)) v) (cond a [] (drop (g .turn .from) bs))
+    go : (a : Bool) → length (cond a [] (drop (g .turn .next .from) bs)) ≤ 320
+        → runOf (handsBack (openedIn (g .turn)) v) (take (min (cond a 0 (length (leftOf g bs))) 320) (written line 0 (leftOf g bs))) ≡ runOf (handsBack (openedIn (g .turn)) v) (cond a [] (drop (g .turn .next .from) bs))
     go true h = refl
     go false h =
-        let q : leftOf g bs ≡ drop (g .turn .from) bs = drop-least (g .turn .from) bs in
-        let m : min (length (drop (g .turn .from) bs)) 320 ≡ 0 + length (drop (g .turn .from) bs) = omega arith in
-        rw (q, m, take-written line 0 (drop (g .turn .from) bs) (omega arith))
+        let q : leftOf g bs ≡ drop (g .turn .next .from) bs = drop-min (g .turn .next .from) bs in
+        let m : min (length (drop (g .turn .next .from) bs)) 320 ≡ 0 + length (drop (g .turn .next .from) bs) = omega arith in
+        rw (q, m, take-written line 0 (drop (g .turn .next .from) bs) (omega arith))
 
 readings-of : (g : KeptTurn) (line bs : List ℕ) → (heldWith g line bs) .readings ≡ g .readings
 unfolding heldWith
@@ -91,16 +83,13 @@ pub held-fed : (g : KeptTurn) (r : Fed) (line bs : List ℕ) (v : List Reading �
 held-fed g r line bs v o e long q =
     rw (e, readings-of g line bs) (held-view g line bs (v (g .readings)) long (rw q (fed-short bs (runOf o []) (omega arith)))) ∙ q
 
-pub held-is : (g : KeptTurn) (line bs more : List ℕ) (f h : ℕ) → f ≡ min (g .turn .from) (length bs) → more ≡ written line 0 (take (length bs - f) (drop f bs))
+pub held-is : (g : KeptTurn) (line bs more : List ℕ) (f h : ℕ) → f ≡ min (g .turn .next .from) (length bs) → more ≡ written line 0 (take (length bs - f) (drop f bs))
     → h ≡ cond (isAnswered (answerView (g .turn .answer))) 0 (length (take (length bs - f) (drop f bs)))
     → record { run = record { «record» = g .turn .«record»; answer = g .turn .answer; line = more; held = h }; readings = g .readings } ≡ heldWith g line bs
 unfolding heldWith
-held-is g line bs more f h p q r = rw (r, q, rest-is bs f, p)
+held-is g line bs more f h p q r = rw (r, q, rest-of bs f, p)
 
 -- ---- the line begun
-either : (x y : Bool) → (x || y) ≡ false → (x ≡ false) × (y ≡ false)
-either true y h = absurd (true≢false h)
-either false y h = (refl, h)
 
 -- with h bytes of it held, and a piece t
 module _ (line t : List ℕ) (h : ℕ) where
@@ -134,7 +123,7 @@ module _ (line t : List ℕ) (h : ℕ) where
 
     carried-on : (ltb e n || ltb 320 (k + e)) ≡ false → runOf O (take (min (k + e) 320) (written line k (take e t))) ≡ fed (runOf O (take k line)) t
     carried-on g =
-        let x = either (ltb e n) (ltb 320 (k + e)) g in
+        let x = or-parts (ltb e n) (ltb 320 (k + e)) g in
         let z : e ≡ length t = omega (arith, ltb-false e n (x .0), ltb-false 320 (k + e) (x .1), fits) in
         let m : min (k + e) 320 ≡ k + e = omega (arith, ltb-false 320 (k + e) (x .1)) in
         let a : take e t ≡ t = take-all e t (omega arith) in
@@ -172,7 +161,7 @@ module _ (line t : List ℕ) (h : ℕ) where
         → fed (runOf o′ []) (take (length t - j .used) (drop (j .used) t)) ≡ fed (runOf O (take k line)) t
     unfolding joinedOf
     join-given j q g o′ p =
-        ap (fed (runOf o′ [])) (rest-is t (j .used)) ∙ rw q (carried (sym (ap (λ (x : Joined). x .whole) q) ∙ g) o′ (rw q at p))
+        ap (fed (runOf o′ [])) (rest-of t (j .used)) ∙ rw q (carried (sym (ap (λ (x : Joined). x .whole) q) ∙ g) o′ (rw q at p))
 
 -- ---- none is begun
 pub none-begun : (O : Out) (line : List ℕ) (h : ℕ) → h ≤ 0 → runOf O (take (min h 320) line) ≡ runOf O []

@@ -20,7 +20,7 @@ fedOn r rs line n = record {
 
 -- what is left of a piece after its lines, unless there is an answer
 abbrev pub leftOf : KeptTurn → List ℕ → List ℕ
-leftOf g bs = drop (min (g .turn .from) (length bs)) bs
+leftOf g bs = drop (min (g .turn .next .from) (length bs)) bs
 
 unfoldable pub heldWith : KeptTurn → List ℕ → List ℕ → Fed
 heldWith g line bs = record {

@@ -36,7 +36,8 @@ fn held_on(given: KeptTurn, line: [u8; 321], piece: &[u8]) -> Fed
     let readings = given.readings;
     let record = turn.record;
     let answer = turn.answer;
-    let from = least(turn.from, piece.len());
+    let next = turn.next;
+    let from = least(next.from, piece.len());
     let left = &piece[from..];
     Fed {
         run: Run {

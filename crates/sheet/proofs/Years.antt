@@ -8,6 +8,7 @@ use lib.Dec.{T}
 use lib.ListN.{length, getD}
 use Rattle.lists.specs.Lists.{Each, each-nil, each-cons, flat, tab, range}
 use Rattle.lists.proofs.Sums.{each-range}
+use Rattle.lists.proofs.Laws.{length-tab}
 use Rattle.calendar.specs.Spans.{isKnown, historyYears}
 use Rattle.calendar.proofs.Laws.{history-bounds, history-short, no-history}
 use Rattle.meaning.specs.Filing.{Filing, historyOf, yearsIn, historyList}
@@ -63,11 +64,6 @@ dated-in : (F : Filing) {ys : List ℕ} → Each (λ y. 2007 ≤ y) ys → Dated
 unfolding Dated yearReport
 dated-in F each-nil = each-nil
 dated-in F (each-cons {x = y} h r) = each-cons (λ (e : y ≡ 0). omega (arith, h)) (dated-in F r)
-
-length-tab : {A : Type 0} (n i : ℕ) (f : ℕ → A) → length (tab n i f) ≡ n
-unfolding tab
-length-tab zero i f = refl
-length-tab (suc n) i f = ap suc (length-tab n (suc i) f)
 
 length-map : (F : Filing) (ys : List ℕ) → length (map (yearReport F) ys) ≡ length ys
 length-map F [] = refl

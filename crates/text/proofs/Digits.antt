@@ -10,8 +10,9 @@ use lib.Dec.{T, ltb}
 use lib.ListN.{length, getD, length-append, List·getD-append}
 use borrow.Author.Tests.{lt-ltb, le-ltb, ltb-true, ltb-false}
 use Rattle.lists.specs.Lists.{Each, each-nil, each-cons}
-use Rattle.text.specs.Numbered.{isNumber, valueFrom, valueOf}
-use Rattle.text.proofs.Laws.{value-snoc, of-number}
+use Rattle.lists.proofs.Tables.{each-snoc}
+use Rattle.text.specs.Numbers.{isNumber, valueFrom, valueOf}
+use Rattle.text.proofs.NumberLaws.{value-snoc, of-number}
 use Rattle.text.specs.Digits.{digitsWithin, digitsOf}
 
 -- ---- the decimal text of a number, by division by ten
@@ -65,12 +66,8 @@ value-digits = by-tens (λ n. valueOf (digitsOf n) ≡ n) (λ n h. rw (digits-on
     more : (n : ℕ) → 10 ≤ n → valueOf (digitsOf (n / 10)) ≡ n / 10 → valueOf (digitsOf n) ≡ n
     more n h r = ap valueOf (digits-more n h) ∙ value-snoc (digitsOf (n / 10)) (48 + n % 10) ∙ rw r (omega arith)
 
-each-snoc : {A : Type 0} {P : A → Type 0} {xs : List A} (x : A) → Each P xs → P x → Each P (xs ++ (x ∷ []))
-each-snoc x each-nil p = each-cons p each-nil
-each-snoc x (each-cons h r) p = each-cons h (each-snoc x r p)
-
 pub digits-each : (n : ℕ) → Each (λ b. (48 ≤ b) × (b ≤ 57)) (digitsOf n)
-digits-each = by-tens (λ n. Each (λ b. (48 ≤ b) × (b ≤ 57)) (digitsOf n)) (λ n h. rw (digits-one n h) (each-cons {x = 48 + n} (omega arith) each-nil)) (λ n h r. rw (digits-more n h) (each-snoc (48 + n % 10) r (omega arith)))
+digits-each = by-tens (λ n. Each (λ b. (48 ≤ b) × (b ≤ 57)) (digitsOf n)) (λ n h. rw (digits-one n h) (each-cons {x = 48 + n} (omega arith) each-nil)) (λ n h r. rw (digits-more n h) (each-snoc {x = 48 + n % 10} r (omega arith)))
 
 pub digits-some : (n : ℕ) → 1 ≤ length (digitsOf n)
 digits-some = by-tens (λ n. 1 ≤ length (digitsOf n)) (λ n h. rw (digits-one n h) (omega arith)) (λ n h r. rw (digits-more n h) (simp length-append (omega arith)))

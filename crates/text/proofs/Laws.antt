@@ -10,13 +10,15 @@ use lib.Dec.{T, eqb, leb}
 use lib.ListN.{length, take, drop, getD, drop-of-length-le, length-take, length-drop}
 use lib.Seq.{drop-cons, take-length, take-suc}
 use borrow.Author.Tests.{eq-eqb, ne-eqb, eqb-true, eqb-false, leb-true, leb-false}
+use Rattle.text.specs.Numbers.{isDigit, isNumber, valueOf, most}
 use Rattle.lists.specs.Lists.{any, Each, each-nil, each-cons}
-use Rattle.lists.proofs.Laws.{same, is-true, any-snoc}
+use Rattle.lists.proofs.Laws.{any-snoc}
 use Rattle.lists.proofs.Reflect.{of-eq, of-and}
+use Rattle.lists.proofs.Tests.{same, is-true}
 use Rattle.text.specs.Fields.{isStrange, upTo, past, tabAt, tabs, restAt, fieldAt, reads}
-use Rattle.text.specs.Numbered.{isDigit, isNumber, valueOf, most, numberedOf}
+use Rattle.text.specs.Numbered.{numberedOf}
 use Rattle.text.specs.declared.Numbered.{Numbered}
-pub use Rattle.text.proofs.NumberLaws.{any-here, any-on, any-end, value-snoc, number-snoc, ltb-capped, eqb-capped, of-digit, of-number, of-dash}
+use Rattle.text.proofs.NumberLaws.{value-snoc, number-snoc, eqb-capped}
 
 -- ---- a walk: the first tab
 pub tab-here : (l : List ℕ) (i : ℕ) → i < length l → getD l i 0 ≡ 9 → tabAt (drop i l) ≡ 0

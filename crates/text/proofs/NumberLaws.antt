@@ -11,8 +11,8 @@ use lib.ListN.{length, drop, getD, drop-of-length-le, length-append}
 use lib.Seq.{drop-cons}
 use borrow.Author.Tests.{eqb-true, eqb-false, ne-eqb}
 use Rattle.lists.specs.Lists.{any, all, Each}
-use Rattle.lists.proofs.Laws.{same}
 use Rattle.lists.proofs.Reflect.{of-eq, of-le, of-and, of-or, of-not, of-all}
+use Rattle.lists.proofs.Tests.{same}
 use Rattle.text.specs.Numbers.{isDigit, isNumber, valueFrom, valueOf, isDash}
 
 -- ---- a walk: a test of some byte, and of each

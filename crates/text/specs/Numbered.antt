@@ -2,8 +2,7 @@
 use mathlib.Core.List.{List}
 use Prim.Native.Nat.{ℕ, min}
 use Rattle.lists.specs.Lists.{any}
-unfoldable pub use Rattle.text.specs.Numbers.{isDigit, isNumber, valueFrom, valueOf, isDash}
-pub use Rattle.text.specs.Numbers.{most}
+use Rattle.text.specs.Numbers.{isNumber, valueOf, most}
 use Rattle.text.specs.Fields.{upTo, tabAt, isStrange}
 use Rattle.text.specs.declared.Numbered.{Numbered}
 

@@ -16,10 +16,10 @@ use Rattle.lists.proofs.Reflect.{of-eq, of-or}
 use Rattle.lists.proofs.Snoc.{allAt-at}
 use Rattle.lists.proofs.Walks.{sum-most}
 use Rattle.lists.proofs.Ranges.{map-tab, first-found}
+use Rattle.lists.proofs.Tests.{and-right}
 use Rattle.calendar.specs.declared.Years.{Years}
 use Rattle.calendar.specs.Places.{hasDate}
 use Rattle.calendar.specs.Spans.{among, axisYears, yearAt, placeAt}
-use Rattle.calendar.proofs.Tables.{and-right}
 use Rattle.meaning.specs.Filing.{Site}
 use Rattle.meaning.specs.Line.{mostDaily}
 use Rattle.meaning.specs.Blocks.{World, readingsOf}

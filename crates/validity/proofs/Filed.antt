@@ -7,11 +7,9 @@ use native.Mathlib.Omega.{arith}
 use lib.Dec.{T, eqb, leb, ltb, eqb→eq, leb→le, ltb→lt}
 use lib.ListN.{length, getD}
 use Rattle.lists.specs.Lists.{all, tab, neighbours}
-use Rattle.lists.proofs.Laws.{is-true}
 use Rattle.calendar.specs.declared.Years.{Years}
 use Rattle.calendar.specs.Places.{hasDate}
 use Rattle.calendar.specs.Spans.{among, axisYears, yearAt, placeAt}
-use Rattle.calendar.proofs.Tables.{and-left, and-right}
 use Rattle.calendar.proofs.Laws.Positions.{among-words, has-history, axis-bounds, axis-range}
 use Rattle.meaning.specs.Filing.{Site, Reading, axisOf, historyOf}
 use Rattle.meaning.specs.Line.{mostIndex, isKind}
@@ -21,6 +19,7 @@ use Rattle.meaning.specs.Record.{Tallies, historyOfSite, readingFits, readingsF
 use Rattle.readings.specs.Columns.{readingIn, readingsIn, Columned}
 use Rattle.validity.specs.Columns.{opens, closes, Rising, Counting}
 use Rattle.lists.proofs.Ranges.{all-tab, map-tab, neighbours-tab, each-of-range}
+use Rattle.lists.proofs.Tests.{is-true, and-left, and-right}
 
 abbrev pub intervalOf : List ℕ → List ℕ → List ℕ → ℕ → Interval
 intervalOf ps xs ks i = record { from = readingIn ps xs ks i; to = readingIn ps xs ks (i + 1) }

@@ -10,16 +10,17 @@ use lib.ListN.{getD, take, drop}
 use lib.Seq.{getD-take, getD-drop}
 use borrow.Author.Tests.{lt-ltb, le-leb}
 use Rattle.lists.specs.Lists.{sum, count, range, tab, isSome, Each, each-nil, each-cons}
-use Rattle.lists.proofs.Laws.{is-true}
+use Rattle.lists.proofs.Tests.{is-true}
+use Rattle.lists.proofs.Laws.{each-map}
 use Rattle.calendar.specs.Spans.{among, historyYears}
 use Rattle.calendar.proofs.Laws.{among-words, known-parts, history-bounds, history-short}
 use Rattle.note.proofs.PeakDays.{each-winter}
-use Rattle.note.proofs.HistoryPeaks.{known}
+use Rattle.note.proofs.History.{known}
 use Rattle.meaning.specs.Filing.{Site}
 use Rattle.meaning.specs.Validity.{presentPoints, expectedPoints, enough, curveValid}
 use Rattle.meaning.specs.Blocks.{World, missingPoint, rowSize, isNear, nearStart, farStart, slotAt, codeAt, pointOfCode}
 use Rattle.meaning.specs.Record.{Tallies, historyOfSite, pointHeld, filingHeld}
-use Rattle.validity.specs.Rows.{holdsYear, part, rowOf}
+use Rattle.blocks.specs.Rows.{holdsYear, part, rowOf}
 use Rattle.validity.specs.Availability.{isThere, thereOnDay, thereIn, validRow}
 
 -- ---- sums and counts that agree at each element
@@ -32,10 +33,6 @@ count-tab : (p q : ℕ → Bool) (n i : ℕ) → ((k : ℕ) → k < i + n → p 
 unfolding tab count
 count-tab p q zero i h = refl
 count-tab p q (suc n) i h = rw (h i (omega arith)) (ap (λ (c : ℕ). cond (q i) (suc c) c) (count-tab p q n (suc i) (λ k j. h k (omega arith))))
-
-each-with : {A : Type 0} {P Q : A → Type 0} → ((a : A) → P a → Q a) → {xs : List A} → Each P xs → Each Q xs
-each-with h each-nil = each-nil
-each-with h (each-cons {x = x} p r) = each-cons (h x p) (each-with h r)
 
 -- ---- the years that the blocks hold are those of every history
 pub history-held : (al f y : ℕ) → T (among (historyYears al f) y) → holdsYear al y ≡ true
@@ -87,7 +84,7 @@ module _ (t : Site) (n : ℕ) (k : Tallies) (e : Bool) (b : World) (y : ℕ) (m 
   unfolding presentPoints thereIn thereOnDay range
   present-is =
       sum-each (λ w. count (λ h. isSome (filingHeld t n k e b .point y w h)) (tab 20 0 (λ h. h))) (λ w. count (isThere (rowOf (t .al) (b .near) (b .far) y) w) (tab 20 0 (λ h. h)))
-      (each-with (λ w i. count-tab (λ h. isSome (filingHeld t n k e b .point y w h)) (isThere (rowOf (t .al) (b .near) (b .far) y) w) 20 0 (λ h j. there-is w h i (omega arith))) (each-winter y))
+      (each-map (λ w i. count-tab (λ h. isSome (filingHeld t n k e b .point y w h)) (isThere (rowOf (t .al) (b .near) (b .far) y) w) 20 0 (λ h j. there-is w h i (omega arith))) (each-winter y))
 
   -- a curve year of a filing is valid where its row is
   pub valid-is : curveValid (filingHeld t n k e b) y ≡ validRow (rowOf (t .al) (b .near) (b .far) y) y (filingHeld t n k e b .broken y)

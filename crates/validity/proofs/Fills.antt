@@ -17,7 +17,8 @@ use Rattle.calendar.proofs.Tables.{tri}
 use Rattle.validity.specs.Columns.{opens, closes, Rising}
 use Rattle.validity.specs.Days.{isAround, around, ofInterval, sumBetween}
 use Rattle.validity.specs.Steps.{firstPlace, filled}
-use Rattle.lists.proofs.Ranges.{and-false, first-is, first-not, sum-next}
+use Rattle.lists.proofs.Ranges.{first-is, first-not, sum-next}
+use Rattle.lists.proofs.Tests.{and-false}
 
 -- ---- one part with one value
 pub filled-length : (xs : List ℕ) (a b v : ℕ) → length (filled xs a b v) ≡ 4392

@@ -1,5 +1,4 @@
 pub mod Parts
-pub mod Days
 pub mod Filings
 pub mod Trust
 pub mod Winter

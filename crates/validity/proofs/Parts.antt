@@ -9,7 +9,6 @@ use Rattle.validity.specs.Availability.{isThere, thereOnDay, thereIn}
 use Rattle.note.specs.Peaks.{peakDays}
 use Rattle.note.proofs.PeakDays.{days-length, most-days}
 use Rattle.meaning.specs.Validity.{expectedPoints}
-pub use Rattle.blocks.proofs.Parts.{part-none, part-short, Held, held, truth}
 
 -- a day has at most 20 points
 pub day-most : (row : List ℕ) (w : ℕ) → thereOnDay row w ≤ 20

@@ -9,7 +9,7 @@ use lib.Dec.{T}
 use lib.ListN.{getD}
 use borrow.Author.Tests.{lt-ltb}
 use Rattle.lists.specs.Lists.{firstOf}
-use Rattle.lists.proofs.Laws.{is-true, getD-tab0}
+use Rattle.lists.proofs.Laws.{getD-tab0}
 use Rattle.calendar.specs.declared.Years.{Years}
 use Rattle.calendar.specs.Spans.{among, axisYears, yearAt, placeAt}
 use Rattle.calendar.proofs.Laws.Positions.{among-words, has-history, history-short}
@@ -23,6 +23,7 @@ use Rattle.readings.specs.Columns.{Columned}
 use Rattle.validity.specs.Columns.{opens, closes}
 use Rattle.validity.specs.Days.{isAround, around, energyIn, sumBetween, totalIn, ofInterval, energyAt, totalAt, energiesOf, totalsOf}
 use Rattle.lists.proofs.Ranges.{through, first-tab, first-found, sum-same}
+use Rattle.lists.proofs.Tests.{is-true}
 use Rattle.validity.proofs.Filed.{intervalOf, fits, axis-held, intervals-held, axis-row}
 
 module _ (t : Site) (n : ℕ) (k : Tallies) (e : Bool) (w : World) where

@@ -8,20 +8,20 @@ use native.Mathlib.Omega.{arith}
 use lib.Dec.{T, eqb, leb, ltb}
 use lib.ListN.{getD}
 use Rattle.lists.specs.Lists.{any, all, tab, range}
-use Rattle.lists.proofs.Laws.{same}
 use Rattle.lists.proofs.Reflect.{of-and, of-le, of-lt}
 use Rattle.calendar.specs.Places.{hasDate}
 use Rattle.calendar.specs.Spans.{axisYears, placeAt}
-use Rattle.calendar.proofs.Tables.{and-both, given, tri}
+use Rattle.calendar.proofs.Tables.{given, tri}
 use Rattle.meaning.specs.Filing.{Site, Filing, axisOf, yearOf}
 use Rattle.meaning.specs.Validity.{intervals, hasDay, isWinterDay, overlapsWinter, winterDays, isCovered, isSound, indexValid}
 use Rattle.meaning.specs.Blocks.{World, readingsOf}
 use Rattle.meaning.specs.Record.{Tallies, historyOfSite, readingsFit, filingHeld}
 use Rattle.readings.specs.Columns.{Columned}
-use Rattle.validity.specs.Columns.{opens, closes, january, meetsWinter, isSet, Rising}
-use Rattle.validity.specs.Index.{coversYear, isTrustedAt, isSoundAt, isSoundYear, validIndex}
+use Rattle.validity.specs.Columns.{opens, closes, january, meetsWinter, isSet, Rising, isTrustedAt}
+use Rattle.validity.specs.Index.{coversYear, isSoundAt, isSoundYear, validIndex}
 use Rattle.validity.specs.Days.{isAround}
 use Rattle.lists.proofs.Ranges.{any-tab, all-tab, all-keep, all-same, some-of-range, range-some, each-of-range, range-each}
+use Rattle.lists.proofs.Tests.{same, and-made}
 use Rattle.validity.proofs.Fills.{later}
 use Rattle.validity.proofs.Winter.{InWinter, dated-at, dated-late, winter-day, overlap-by-ends}
 use Rattle.validity.proofs.Filed.{intervalOf, fits, axis-held, intervals-held, axis-row, by-year}
@@ -92,7 +92,7 @@ module _ (F : Filing) (ps xs ks : List ℕ) (n y s : ℕ) (r : Rising ps n) (fro
           → (p : ℕ) → s ≤ p → p < s + 366 → T (hasDate y (placeAt p)) → InWinter s p → (i : ℕ) × (i + 1 < n) × (opens ps i ≤ p) × (p < closes ps i)
       at-day t p h l d q =
           let u = each-of-range (λ z. not (days-test z) || any (λ v. hasDay v z) (intervals F)) 366 (366 * (y - axisOf F .first)) t p (omega arith) (omega arith) in
-          let b = given (days-test p) (any (λ v. hasDay v p) (intervals F)) u (and-both (hasDate y (placeAt p)) (isWinterDay F y p) d (winter-day F y s from row p .1 q)) in
+          let b = given (days-test p) (any (λ v. hasDay v p) (intervals F)) u (and-made (hasDate y (placeAt p)) (isWinterDay F y p) d (winter-day F y s from row p .1 q)) in
           let i = some-of-range (isAround ps p) (n - 1) 0 (rw (around-day p) at b) in
           let a = around-words ps p (i .0) .0 (i .3) in
           (i .0, omega (arith, i .2), a .0, a .1)

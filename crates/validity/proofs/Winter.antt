@@ -7,17 +7,17 @@ use native.Mathlib.Omega.{arith}
 use lib.Dec.{T, eqb, leb, ltb}
 use borrow.Author.Tests.{lt-ltb}
 use Rattle.lists.specs.Lists.{any, range, sum, count}
-use Rattle.lists.proofs.Laws.{same}
 use Rattle.lists.proofs.Reflect.{of-eq, of-le, of-lt, of-and, of-or}
 use Rattle.calendar.specs.Dates.{isWinter, monthLengths}
 use Rattle.calendar.specs.Places.{hasDate, monthOf, before}
 use Rattle.calendar.specs.Spans.{yearAt, placeAt}
-use Rattle.calendar.proofs.Tables.{and-right, and-both, beq→eq, at, tri}
+use Rattle.calendar.proofs.Tables.{beq→eq, at, tri}
 use Rattle.calendar.proofs.Laws.Days.{has-date-other}
 use Rattle.meaning.specs.Filing.{Filing, axisOf, yearOf}
 use Rattle.meaning.specs.Validity.{Interval, daysOf, isWinterDay, overlapsWinter, touches}
 use Rattle.validity.specs.Columns.{meetsWinter}
 use Rattle.lists.proofs.Ranges.{any-keep, some-of-range, range-some}
+use Rattle.lists.proofs.Tests.{same, and-right, and-made}
 
 -- ---- winter's date places
 winter-test : ℕ → Bool
@@ -79,7 +79,7 @@ module _ (F : Filing) (y s : ℕ) (from : axisOf F .first ≤ y) (row : s ≡ 36
       let q : ℕ → Bool = λ r. hasDate (yearOf F r) (placeAt r) in
       let a = v .from .position in
       let b = v .to .position in
-      rw (any-keep t q (range a (b - a))) (range-some (λ r. q r && t r) (b - a) a p h (omega arith) (and-both (q p) (t p) d u))
+      rw (any-keep t q (range a (b - a))) (range-some (λ r. q r && t r) (b - a) a p h (omega arith) (and-made (q p) (t p) d u))
 
   -- an interval in order, from a day that there is
   module _ (v : Interval) (order : v .from .position < v .to .position) (dated : T (hasDate (yearOf F (v .from .position)) (placeAt (v .from .position)))) where

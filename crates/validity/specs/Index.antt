@@ -5,8 +5,7 @@ use Prim.Native.Nat.{ℕ, _+_, _-_}
 use lib.Dec.{leb, ltb}
 use lib.ListN.{getD}
 use Rattle.lists.specs.Lists.{all, range}
-use Rattle.validity.specs.Columns.{opens, closes, january, meetsWinter}
-unfoldable pub use Rattle.validity.specs.Columns.{isTrustedAt}
+use Rattle.validity.specs.Columns.{opens, closes, january, meetsWinter, isTrustedAt}
 
 -- readings rise: the first stands on or before the 1 January at s, and the last on or after the next one
 unfoldable pub coversYear : List ℕ → ℕ → ℕ → Bool

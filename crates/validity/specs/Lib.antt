@@ -1,4 +1,3 @@
-pub mod Rows
 pub mod Availability
 pub mod Columns
 pub mod Index

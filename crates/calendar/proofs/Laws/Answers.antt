@@ -5,7 +5,7 @@ use Prim.Native.Nat.{ℕ, _+_, _-_, _*_, _/_, _%_, _≤_, _<_}
 use native.Mathlib.Omega.{arith}
 use lib.Dec.{ltb, ltb→lt}
 use borrow.Author.Tests.{lt-ltb, le-ltb, ltb-true, ltb-false}
-use Rattle.lists.proofs.Laws.{is-true}
+use Rattle.lists.proofs.Tests.{is-true, and-left, and-right, passed}
 use Rattle.calendar.specs.Dates.{isDate, isDay, isWinter}
 use Rattle.calendar.specs.Places.{datePlace, monthOf, dayOf, hasDate, winterPlace, dateOfWinter}
 use Rattle.calendar.specs.Spans.{among, positionOf, yearAt, placeAt}
@@ -14,7 +14,6 @@ use Rattle.calendar.specs.declared.Place.{Place}
 use Rattle.calendar.specs.declared.Day.{Day}
 use Rattle.calendar.specs.declared.AxisDate.{AxisDate}
 use Rattle.calendar.specs.declared.Years.{Years}
-use Rattle.calendar.proofs.Tables.{and-left, and-right, passed}
 use Rattle.calendar.proofs.Laws.Days.{day-place, date-day}
 use Rattle.calendar.proofs.Laws.Winter.{winter-place-day}
 

@@ -6,14 +6,14 @@ use Prim.Native.Nat.{ℕ, _+_, _-_, _*_, _/_, _%_, _≤_, _<_}
 use native.Mathlib.Omega.{arith}
 use lib.Dec.{T, leb, ltb, eqb, leb→le, le→leb, ltb→lt, lt→ltb, lit≤}
 use borrow.Author.Tests.{ne-eqb}
-use Rattle.lists.proofs.Laws.{same, is-true, is-false}
 use Rattle.lists.proofs.Reflect.{of-and, of-le, of-lt}
+use Rattle.lists.proofs.Tests.{same, is-false, is-true, and-left, and-right, and-made, passed}
 use Rattle.calendar.specs.Dates.{isDay}
 use Rattle.calendar.specs.Places.{datePlace, monthOf, dayOf}
 use Rattle.calendar.specs.Spans.{years, among, historyLength, isKnown, historyYears, axisYears, positionOf, yearAt, placeAt}
 use Rattle.calendar.specs.Words.{EarlierDate}
 use Rattle.calendar.specs.declared.Years.{Years}
-use Rattle.calendar.proofs.Tables.{and-left, and-right, and-both, passed, tri}
+use Rattle.calendar.proofs.Tables.{tri}
 use Rattle.calendar.proofs.Laws.Days.{day-place, place-day, earlier-place}
 
 -- ---- spans of years
@@ -164,7 +164,7 @@ pub among-by-count : (s : Years) (y : ℕ) → s .first ≤ y → ltb (y - s .fi
 unfolding among
 among-by-count s y h =
     same (ltb (y - s .first) (s .count)) (leb (s .first) y && ltb y (s .first + s .count))
-    (λ t. and-both (leb (s .first) y) _ (le→leb (s .first) y h) (lt→ltb y (s .first + s .count) (omega (arith, ltb→lt (y - s .first) (s .count) t))))
+    (λ t. and-made (leb (s .first) y) _ (le→leb (s .first) y h) (lt→ltb y (s .first + s .count) (omega (arith, ltb→lt (y - s .first) (s .count) t))))
     (λ t. lt→ltb (y - s .first) (s .count) (omega (arith, ltb→lt y (s .first + s .count) (and-right (leb (s .first) y) _ t))))
 
 -- ---- positions

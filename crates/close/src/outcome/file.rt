@@ -1,6 +1,7 @@
 // What the close of a file tells: a refusal, or level, points and years.
 ghost use mathlib.Core.Path.{_≡_};
 ghost use Rattle.close.specs.FileTold.{refusedBy};
+ghost use Rattle.close.specs.Ends.{noYears};
 
 // A history year: its case as the sheet has it, and its points present. All 0 where the file has no such year.
 pub struct Year {
@@ -17,19 +18,27 @@ pub struct Closing {
     pub years: [Year; 10],
 }
 
-// 15 to 18: no level, no points and no years.
-pub(crate) fn refused(number: u64) -> Closing
-    ensures { λ r. ⌜ r ≡ refusedBy number ⌝ }
+// All empty: those of a refusal, and of a report before its years stand in it.
+pub(crate) fn no_years() -> [Year; 10]
+    ensures { λ r. ⌜ r ≡ noYears ⌝ }
 {
     let none = Year {
         year: 0,
         case: 0,
         present: 0,
     };
+    [none; 10]
+}
+
+// 15 to 18: no level, no points and no years.
+pub(crate) fn refused(number: u64) -> Closing
+    ensures { λ r. ⌜ r ≡ refusedBy number ⌝ }
+{
+    let years = no_years();
     Closing {
         number,
         level: 0,
         points: 0,
-        years: [none; 10],
+        years,
     }
 }

@@ -1,6 +1,7 @@
 // What a close hands back of what the stops or the close of the file tell.
 use crate::outcome::file::Closing;
 use crate::outcome::file::Year;
+use crate::outcome::file::no_years;
 use answers::Answer;
 use line_form::Site;
 ghost use mathlib.Core.Path.{_≡_};
@@ -29,15 +30,11 @@ pub(crate) fn stopped_state(number: u64, state: u64) -> u64
 pub(crate) fn refuse(state: u64, count: u64, number: u64) -> Ended
     ensures { λ r. ⌜ r ≡ refusedOf state count number ⌝ }
 {
-    let none = Year {
-        year: 0,
-        case: 0,
-        present: 0,
-    };
+    let years = no_years();
     Ended {
         answer: Answer::Refused { number, count },
         state,
-        years: [none; 10],
+        years,
     }
 }
 

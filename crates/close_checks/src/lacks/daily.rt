@@ -3,8 +3,9 @@
 ghost use mathlib.Core.Path.{_≡_};
 ghost use mathlib.Core.Bool.{_&&_};
 ghost use Prim.Native.Nat.{_+_, _<_, _≤_};
+ghost use Rattle.close_checks.specs.Totals.{someIn, someWinter};
 ghost use Rattle.validity.specs.Columns.{opens, closes, january, meetsWinter, isSet, Rising};
-ghost use Rattle.close_checks.specs.Closing.{someIn, someWinter, missesBetween, missesDays};
+ghost use Rattle.close_checks.specs.Closing.{missesBetween, missesDays};
 
 // From a to the one before b.
 fn misses(dates: [u64; 12], a: usize, b: usize) -> bool

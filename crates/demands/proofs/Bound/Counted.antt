@@ -10,8 +10,8 @@ use lib.ListN.{length, length-map}
 use Rattle.lists.specs.Lists.{any, isSome, range, count, Some}
 use Rattle.lists.proofs.Laws.{some-map, any-some}
 use Rattle.lists.proofs.Sums.{some-first, some-picture, pictured, some-present, same-present, some-counted, some-summed}
+use Rattle.lists.proofs.Tests.{and-right}
 use Rattle.calendar.specs.Spans.{isKnown}
-use Rattle.calendar.proofs.Tables.{and-right}
 use Rattle.note.specs.Peaks.{peakDays, peakCount}
 use Rattle.note.proofs.PeakDays.{fewest-days}
 use Rattle.meaning.specs.Filing.{Filing, Meter, noMeter, curveMeter, indexMeter, historyList}

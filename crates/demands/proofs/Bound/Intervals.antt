@@ -7,13 +7,13 @@ use native.Mathlib.Omega.{arith}
 use lib.Dec.{T, eqb, leb, ltb}
 use borrow.Author.Tests.{ltb-true, ltb-false}
 use Rattle.lists.specs.Lists.{any, all}
-use Rattle.lists.proofs.Laws.{both-not, first-none, any-each, any-some, some-any}
+use Rattle.lists.proofs.Laws.{first-none, any-each, any-some, some-any}
 use Rattle.lists.proofs.Reflect.{of-and, of-eq, of-le, of-lt, of-all}
 use Rattle.lists.proofs.Sums.{In, each-in, some-in, in-range, in-kept, first-some}
+use Rattle.lists.proofs.Tests.{both-not, and-left, and-right, and-made}
 use Rattle.calendar.specs.Dates.{isWinter}
 use Rattle.calendar.specs.Places.{hasDate, hasWinterDate, monthOf, dateOfWinter}
 use Rattle.calendar.specs.Spans.{isKnown, yearAt, placeAt}
-use Rattle.calendar.proofs.Tables.{and-left, and-right, and-both}
 use Rattle.calendar.proofs.Laws.{WinterPlaceHasDay, winter-place-day, no-winter-date-past}
 use Rattle.meaning.specs.Filing.{Filing, axisOf, yearOf, historyList}
 use Rattle.meaning.specs.Validity.{Interval, intervals, daysOf, hasDay, totalOf, isWinterDay, overlapsWinter, winterDays, isCovered, isSound, indexValid}
@@ -40,12 +40,12 @@ not-zero F y t n h v i o = go (totalOf F v) refl
     none-hit = each-in (any-each (λ z. indexValid F z && any (hits z) (intervals F)) (historyList F) n) (in-history F y t)
 
     hit : totalOf F v ≡ 0 → T (hits y v)
-    hit e = and-both (overlapsWinter F y v) (eqb (totalOf F v) 0) o (of-eq (totalOf F v) 0 .1 e)
+    hit e = and-made (overlapsWinter F y v) (eqb (totalOf F v) 0) o (of-eq (totalOf F v) 0 .1 e)
 
     go : (k : ℕ) → totalOf F v ≡ k → 0 < totalOf F v
     go zero e =
         absurd (both-not (indexValid F y && any (hits y) (intervals F))
-        (and-both (indexValid F y) (any (hits y) (intervals F)) h (some-any (hits y) (some-in i (hit e)))) none-hit)
+        (and-made (indexValid F y) (any (hits y) (intervals F)) h (some-any (hits y) (some-in i (hit e)))) none-hit)
     go (suc k) e = omega arith
 
 -- a valid index year's winter is covered
@@ -83,7 +83,7 @@ module _ (F : Filing) (known : T (isKnown (F .site .al) (F .site .filiere))) (y 
   unfolding isWinterDay
   winter-there =
       rw (year-there, place-there)
-      (and-both (eqb y y) (isWinter (monthOf (dateOfWinter w))) (of-eq y y .1 refl) (there .is-winter))
+      (and-made (eqb y y) (isWinter (monthOf (dateOfWinter w))) (of-eq y y .1 refl) (there .is-winter))
 
   date-there : T (hasDate (yearOf F (positionAt F y w)) (placeAt (positionAt F y w)))
   unfolding hasWinterDate
@@ -95,7 +95,7 @@ module _ (F : Filing) (known : T (isKnown (F .site .al) (F .site .filiere))) (y 
       let p = positionAt F y w in
       let d = there .below in
       in-kept (λ q. hasDate y (placeAt q) && isWinterDay F y q) (in-range (366 * (y - axisOf F .first)) 366 p (omega arith) (omega arith))
-      (and-both (hasDate y (placeAt p)) (isWinterDay F y p) (rw year-there at date-there) winter-there)
+      (and-made (hasDate y (placeAt p)) (isWinterDay F y p) (rw year-there at date-there) winter-there)
 
   -- an interval with that day overlaps the year's winter
   overlaps : (v : Interval) → T (hasDay v (positionAt F y w)) → T (overlapsWinter F y v)

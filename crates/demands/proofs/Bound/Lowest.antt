@@ -8,8 +8,8 @@ use Prim.Native.Nat.{ℕ, _≤_, _<_, min}
 use native.Mathlib.Omega.{arith}
 use lib.Dec.{leb}
 use borrow.Author.Tests.{leb-true, leb-false}
-use Rattle.lists.specs.Lists.{present, Each, each-nil, each-cons, here, there}
-use Rattle.lists.proofs.Laws.{each-map}
+use Rattle.lists.specs.Lists.{present, here, there}
+use Rattle.lists.proofs.Laws.{least-top, least-each}
 use Rattle.lists.proofs.Sums.{In, each-in, pictured, some-picture, in-present, present-in}
 use Rattle.meaning.specs.Filing.{Filing, historyList}
 use Rattle.meaning.specs.Points.{appliedRate}
@@ -18,13 +18,6 @@ use Rattle.demands.proofs.Bound.Sane.{Sane}
 use Rattle.demands.proofs.Bound.Years.{InHistory, some-year, year-some}
 
 -- ---- the least of m and some numbers
-least-top : (m : ℕ) (xs : List ℕ) → foldr min m xs ≤ m
-least-top m [] = omega arith
-least-top m (x ∷ xs) = omega (arith, least-top m xs)
-
-least-each : (m : ℕ) (xs : List ℕ) → Each (λ x. foldr min m xs ≤ x) xs
-least-each m [] = each-nil
-least-each m (x ∷ xs) = each-cons {x = x} (omega arith) (each-map (λ z p. omega arith) (least-each m xs))
 
 least-one : (m : ℕ) (xs : List ℕ) → (foldr min m xs ≡ m) ⊎ In (foldr min m xs) xs
 least-one m [] = inl refl

@@ -10,8 +10,8 @@ use lib.ListN.{length, length-map}
 use Rattle.lists.specs.Lists.{any, sum, Each, each-nil, each-cons}
 use Rattle.lists.proofs.Laws.{each-map}
 use Rattle.lists.proofs.Sums.{Held, each-picture, each-present, some-picture, sum-positive}
+use Rattle.lists.proofs.Tests.{and-left, and-right}
 use Rattle.calendar.specs.Places.{hasWinterDate}
-use Rattle.calendar.proofs.Tables.{and-left, and-right}
 use Rattle.rounding.specs.Points.{Fraction, rounded, profiled, rebuilt, byDefault}
 use Rattle.rounding.proofs.Laws.{half-up-whole}
 use Rattle.meaning.specs.Filing.{Filing, Meter, noMeter, curveMeter, indexMeter, historyOf}

@@ -7,7 +7,8 @@ use native.Mathlib.Omega.{arith}
 use Rattle.lists.specs.Lists.{sum, Each}
 use Rattle.rounding.specs.Points.{Fraction, rounded, rated, level}
 use Rattle.lists.proofs.Laws.{each-map}
-use Rattle.lists.proofs.Sums.{Held, each-two}
+use Rattle.lists.proofs.Sums.{Held}
+use Rattle.lists.proofs.Tables.{each-both}
 use Rattle.note.proofs.Factors.{c-most}
 use Rattle.meaning.specs.Filing.{Filing}
 use Rattle.meaning.specs.Cases.{Case, caseM, case1, case2, case3, case4, caseP, case5, case6, caseOf}
@@ -75,7 +76,7 @@ module _ (halves rates : ℕ) (F : Filing) (s : Sane F) (off : Each (Off halves)
   unfolding pointAt exactAt
   each-agrees =
       each-map (λ q p. rate-agrees halves rates (lowestRate F) (lowest-top F) (q .rate) (p .1) (meant (q .source)) (exactly (q .source)) (p .0))
-      (each-two off each-rate)
+      (each-both off each-rate)
 
   sums-near : Near (counted F * pointOver halves rates (lowestRate F)) (2 * lowestRate F) (sum (pointsIn (allPlaces F))) (total (exactPoints (allPlaces F)))
   unfolding counted pointsIn exactPoints

@@ -1,6 +1,6 @@
 -- What the blocks hold stays in range: at places with a date what the tag can take, elsewhere fresh.
 use mathlib.Core.Path.{_≡_}
-use mathlib.Core.Bool.{Bool, true, false, not, _&&_, _||_, cond}
+use mathlib.Core.Bool.{Bool, not, _&&_, _||_, cond}
 use mathlib.Core.List.{List, []}
 use mathlib.Core.Option.{Option, some, none}
 use Prim.Native.Nat.{ℕ, _+_, _-_, _*_, _/_, _%_, _≤_, _<_}
@@ -9,7 +9,8 @@ use lib.Dec.{T, leb, eqb, le→leb}
 use lib.ListN.{length, getD, set}
 use lib.Seq.{sets}
 use Rattle.lists.specs.Lists.{all, neighbours}
-use Rattle.lists.proofs.Tables.{and-parts, and-made, set-fits-by, sets-fit-by, replicate-fits}
+use Rattle.lists.proofs.Tables.{set-fits-by, sets-fit-by, replicate-fits}
+use Rattle.lists.proofs.Tests.{and-parts, and-made, or-right}
 use Rattle.calendar.specs.declared.Years.{Years}
 use Rattle.calendar.specs.Places.{hasDate}
 use Rattle.calendar.specs.Spans.{among, yearAt, placeAt}
@@ -63,15 +64,11 @@ fresh-contents h axis al = record {
   readings = tt;
 }
 
-in-range : (a b : Bool) → T b → T (a || b)
-in-range true b t = tt
-in-range false b t = t
-
 -- ---- points
 code-fits : (o : Option ℕ) (b : Bool) → PointFits o → T b → T (pointFits b (codeOfPoint o))
 unfolding pointFits codeOfPoint PointFits
 code-fits none b f t = tt
-code-fits (some v) b f t = in-range (eqb v missingPoint) (b && leb v mostPower) (and-made b (leb v mostPower) t (le→leb v mostPower f))
+code-fits (some v) b f t = or-right (eqb v missingPoint) (b && leb v mostPower) (and-made b (leb v mostPower) t (le→leb v mostPower f))
 
 code-placed : (h : Years) (first : ℕ) (l : Line) → WinterLine h l → ((k : ℕ) → k < 20 → PointFits (pointOf l k)) → InRow 5 first (yearOn l) → (k : ℕ) → k < length (pointCodes l)
     → T (pointFits (isDated h (first + (rowSize * (yearOn l - first) + slotAt (winterOn l) 0 + k) / rowSize) ((rowSize * (yearOn l - first) + slotAt (winterOn l) 0 + k) % rowSize / 20))
@@ -109,7 +106,7 @@ value-placed h l a i f k n =
     let r = row-of (yearOn l - h .first) (winterOn l) k (line-placed a .below) b in
     let y : h .first + (yearOn l - h .first) ≡ yearOn l = omega arith in
     rw (r .row, r .place, y, value-of l k b)
-    (in-range (eqb (valueAt l k) 0) _
+    (or-right (eqb (valueAt l k) 0) _
     (and-made (isDated h (yearOn l) (winterOn l)) (leb (valueAt l k) mostProfile) (line-dated a) (le→leb (valueAt l k) mostProfile (f k b))))
 
 pub slots-fit : (t : Site) (l : Line) → (T (is P (tagOf l)) → WinterLine (historyOfSite t) l) → (T (is P (tagOf l)) → (k : ℕ) → k < 20 → valueAt l k ≤ mostProfile)
@@ -141,6 +138,6 @@ unfolding dailyFits
 daily-fits axis l a xs fit =
     set-fits-by (is D (tagOf l)) _ xs (positionOn axis l) (numberAt l 4) fit
     (λ d. let p = axis-placed (a d) in
-    in-range (eqb (numberAt l 4) 0) _
+    or-right (eqb (numberAt l 4) 0) _
     (and-made (among axis (yearAt axis (positionOn axis l)) && hasDate (yearAt axis (positionOn axis l)) (placeAt (positionOn axis l))) _
     (and-made (among axis (yearAt axis (positionOn axis l))) _ (p .year) (p .date)) (le→leb (numberAt l 4) mostDaily (a d .number))))

@@ -8,8 +8,9 @@ use lib.Dec.{T, ltb, eqb, ltb→lt, lt→ltb, eqb→eq}
 use lib.Seq.{getD-set-same, getD-set-other}
 use borrow.Author.Tests.{eq-eqb}
 use Rattle.lists.specs.Lists.{orElse, Each}
-use Rattle.lists.proofs.Laws.{is-true, each-map}
-use Rattle.lists.proofs.Tables.{and-parts, found}
+use Rattle.lists.proofs.Laws.{each-map}
+use Rattle.lists.proofs.Tables.{found}
+use Rattle.lists.proofs.Tests.{is-true, and-parts}
 use Rattle.calendar.specs.declared.Years.{Years}
 use Rattle.calendar.specs.Spans.{among, axisYears, positionOf}
 use Rattle.calendar.proofs.Laws.Days.{date-day, day-place}

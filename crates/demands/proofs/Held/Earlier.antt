@@ -8,8 +8,8 @@ use native.Mathlib.Omega.{arith}
 use lib.Dec.{T, leb, ltb, eqb, nleb→lt, ltb→lt, lt→ltb, eqb→eq}
 use borrow.Author.Tests.{eq-eqb}
 use Rattle.lists.specs.Lists.{any, Each}
-use Rattle.lists.proofs.Laws.{both-not, is-true, any-each}
-use Rattle.lists.proofs.Tables.{and-parts, and-made}
+use Rattle.lists.proofs.Laws.{any-each}
+use Rattle.lists.proofs.Tests.{both-not, is-true, and-parts, and-made}
 use Rattle.calendar.specs.declared.Years.{Years}
 use Rattle.calendar.specs.Dates.{isDay, isWinter}
 use Rattle.calendar.specs.Places.{dateOfWinter, hasWinterDate}

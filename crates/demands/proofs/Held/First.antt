@@ -6,8 +6,8 @@ use Prim.Native.Nat.{ℕ, _+_, _≤_}
 use native.Mathlib.Omega.{arith}
 use lib.Dec.{T, leb, eqb, le→leb, leb·zero}
 use Rattle.lists.specs.Lists.{sum, tab}
+use Rattle.lists.proofs.Tests.{and-made}
 use Rattle.calendar.specs.Spans.{years, isKnown, historyYears, axisYears}
-use Rattle.calendar.proofs.Tables.{and-both}
 use Rattle.meaning.specs.Filing.{noSite}
 use Rattle.meaning.specs.Line.{Line, S, tagOf, siteOn, isMeter, mostPower}
 use Rattle.meaning.specs.Refusals.{misplaced, tooSoon, holds, refusal, isTooSoon}
@@ -32,14 +32,14 @@ no-lines s e = rw (no-span s e, e) (omega arith)
 -- ---- the ranges of S
 within : (a b n : ℕ) → (a ≤ n) × (n ≤ b) → T (isWithin a b n)
 unfolding isWithin
-within a b n h = and-both (leb a n) (leb n b) (le→leb a n (h .0)) (le→leb n b (h .1))
+within a b n h = and-made (leb a n) (leb n b) (le→leb a n (h .0)) (le→leb n b (h .1))
 
 site-fits : (l : Line) → SiteLine l → T (siteFits true (siteOn l))
 unfolding siteFits meterFits
 site-fits l a =
-    and-both (isWithin 2021 2026 (siteOn l .al)) _ (within 2021 2026 (siteOn l .al) (a .al))
-    (and-both (isWithin 1 11 (siteOn l .filiere)) _ (within 1 11 (siteOn l .filiere) (a .filiere))
-    (and-both (isWithin 1 mostPower (siteOn l .ps)) (isMeter (siteOn l .meter)) (within 1 mostPower (siteOn l .ps) (a .ps)) (a .meter)))
+    and-made (isWithin 2021 2026 (siteOn l .al)) _ (within 2021 2026 (siteOn l .al) (a .al))
+    (and-made (isWithin 1 11 (siteOn l .filiere)) _ (within 1 11 (siteOn l .filiere) (a .filiere))
+    (and-made (isWithin 1 mostPower (siteOn l .ps)) (isMeter (siteOn l .meter)) (within 1 mostPower (siteOn l .ps) (a .ps)) (a .meter)))
 
 module _ (s : Rec) (l : Line) (e : refusal (beforeOf s) l ≡ none) (u : tagOf l ≡ S) (k : Kept s) where
   not-taken : s .last ≡ 0

@@ -4,14 +4,13 @@ use mathlib.Core.Bool.{true, false, not, _&&_, _||_}
 use Prim.Native.Nat.{_≤_}
 use native.Mathlib.Omega.{arith}
 use lib.Dec.{T, leb, eqb, leb→le, le→leb}
+use Rattle.lists.proofs.Tests.{and-made, and-parts}
 use Rattle.calendar.specs.declared.Years.{Years}
 use Rattle.calendar.specs.Spans.{axisYears}
-use Rattle.calendar.proofs.Tables.{and-both}
 use Rattle.meaning.specs.Line.{mostIndex}
 use Rattle.meaning.specs.Refusals.{isTooSoon, mostReadings}
 use Rattle.meaning.specs.Closing.{allWinterDates, allDates}
 use Rattle.meaning.specs.Record.{Rec, Lasts, isTaken, historyOfRec, axisOfRec, isWithin, siteFits, dateFits, yearFits, lastsFit, eachYear, talliesFit, recFits}
-use Rattle.meaning.proofs.Accepted.{both}
 use Rattle.demands.proofs.Held.Counts.{datesBy, winterDatesBy, linesBy, dates-most, winters-most}
 use Rattle.demands.proofs.Held.Ranges.{each-year-map}
 
@@ -27,18 +26,18 @@ pub record LastsIn (h : Years) (k : Lasts) : Type 0 where
 pub lasts-parts : (h : Years) (k : Lasts) → T (lastsFit h k) → LastsIn h k
 unfolding lastsFit
 lasts-parts h k t =
-    let t1 = both (dateFits h true (k .c)) _ t in
-    let t2 = both (dateFits (axisYears h) false (k .x)) _ (t1 .1) in
-    let t3 = both (dateFits (axisYears h) false (k .d)) _ (t2 .1) in
-    let t4 = both (dateFits h true (k .p)) _ (t3 .1) in
-    let t5 = both (yearFits h (k .b)) (yearFits h (k .r)) (t4 .1) in
+    let t1 = and-parts (dateFits h true (k .c)) _ t in
+    let t2 = and-parts (dateFits (axisYears h) false (k .x)) _ (t1 .1) in
+    let t3 = and-parts (dateFits (axisYears h) false (k .d)) _ (t2 .1) in
+    let t4 = and-parts (dateFits h true (k .p)) _ (t3 .1) in
+    let t5 = and-parts (yearFits h (k .b)) (yearFits h (k .r)) (t4 .1) in
     record { c = t1 .0; x = t2 .0; d = t3 .0; p = t4 .0; b = t5 .0; r = t5 .1 }
 
 pub lasts-whole : (h : Years) (k : Lasts) → LastsIn h k → T (lastsFit h k)
 unfolding lastsFit
 lasts-whole h k i =
-    and-both (dateFits h true (k .c)) _ (i .c) (and-both (dateFits (axisYears h) false (k .x)) _ (i .x) (and-both (dateFits (axisYears h) false (k .d)) _ (i .d)
-    (and-both (dateFits h true (k .p)) _ (i .p) (and-both (yearFits h (k .b)) (yearFits h (k .r)) (i .b) (i .r)))))
+    and-made (dateFits h true (k .c)) _ (i .c) (and-made (dateFits (axisYears h) false (k .x)) _ (i .x) (and-made (dateFits (axisYears h) false (k .d)) _ (i .d)
+    (and-made (dateFits h true (k .p)) _ (i .p) (and-made (yearFits h (k .b)) (yearFits h (k .r)) (i .b) (i .r)))))
 
 -- what an accepted line keeps of a record: the ranges, and the room for lines
 pub record Kept (s : Rec) : Type 0 where
@@ -57,15 +56,15 @@ pub kept-of : (s : Rec) → T (recFits s) → T (eachYear (historyOfRec s) (λ y
     → T (eachYear (axisOfRec s) (λ y n. leb n (datesBy y (s .lasts .d))) (s .tallies .dailyDates)) → s .count ≤ linesBy s → Kept s
 unfolding recFits talliesFit
 kept-of s t p d f =
-    let t1 = both (leb (s .state) 3 && (leb (s .count) 9999 && leb (s .last) 8)) _ t in
-    let t2 = both (siteFits (isTaken s) (s .site) && not (isTooSoon (s .site .al) (s .site .filiere))) _ (t1 .1) in
-    let t3 = both (leb (s .readings) mostReadings && leb (s .lastIndex) mostIndex) _ (t2 .1) in
-    let t4 = both (lastsFit (historyOfRec s) (s .lasts)) _ (t3 .1) in
-    let site = both (siteFits (isTaken s) (s .site)) _ (t2 .0) in
-    let numbers = both (leb (s .readings) mostReadings) (leb (s .lastIndex) mostIndex) (t3 .0) in
-    let t5 = both (eachYear (historyOfRec s) (λ y n. leb n (allWinterDates y)) (s .tallies .profileDates)) _ (t4 .1) in
-    let t6 = both (eachYear (axisYears (historyOfRec s)) (λ y n. leb n (allDates y)) (s .tallies .dailyDates)) _ (t5 .1) in
-    let t7 = both (eachYear (historyOfRec s) (λ y n. leb n 1) (s .tallies .breaks)) _ (t6 .1) in
+    let t1 = and-parts (leb (s .state) 3 && (leb (s .count) 9999 && leb (s .last) 8)) _ t in
+    let t2 = and-parts (siteFits (isTaken s) (s .site) && not (isTooSoon (s .site .al) (s .site .filiere))) _ (t1 .1) in
+    let t3 = and-parts (leb (s .readings) mostReadings && leb (s .lastIndex) mostIndex) _ (t2 .1) in
+    let t4 = and-parts (lastsFit (historyOfRec s) (s .lasts)) _ (t3 .1) in
+    let site = and-parts (siteFits (isTaken s) (s .site)) _ (t2 .0) in
+    let numbers = and-parts (leb (s .readings) mostReadings) (leb (s .lastIndex) mostIndex) (t3 .0) in
+    let t5 = and-parts (eachYear (historyOfRec s) (λ y n. leb n (allWinterDates y)) (s .tallies .profileDates)) _ (t4 .1) in
+    let t6 = and-parts (eachYear (axisYears (historyOfRec s)) (λ y n. leb n (allDates y)) (s .tallies .dailyDates)) _ (t5 .1) in
+    let t7 = and-parts (eachYear (historyOfRec s) (λ y n. leb n 1) (s .tallies .breaks)) _ (t6 .1) in
     record {
       sited = site .0;
       timely = site .1;
@@ -82,20 +81,20 @@ kept-of s t p d f =
 pub fits-of : (s : Rec) → Kept s → s .state ≡ 1 → s .count ≤ 9999 → s .last ≤ 8 → T (recFits s)
 unfolding recFits talliesFit axisOfRec
 fits-of s k o n l =
-    and-both (leb (s .state) 3 && (leb (s .count) 9999 && leb (s .last) 8)) _
-    (and-both (leb (s .state) 3) _ (le→leb (s .state) 3 (omega arith)) (and-both (leb (s .count) 9999) _ (le→leb (s .count) 9999 n) (le→leb (s .last) 8 l)))
-    (and-both (siteFits (isTaken s) (s .site) && not (isTooSoon (s .site .al) (s .site .filiere))) _
-    (and-both (siteFits (isTaken s) (s .site)) _ (k .sited) (k .timely))
-    (and-both (leb (s .readings) mostReadings && leb (s .lastIndex) mostIndex) _
-    (and-both (leb (s .readings) mostReadings) _ (le→leb (s .readings) mostReadings (k .readings)) (le→leb (s .lastIndex) mostIndex (k .index)))
-    (and-both (lastsFit (historyOfRec s) (s .lasts)) _ (lasts-whole (historyOfRec s) (s .lasts) (k .lasts)) tallies)))
+    and-made (leb (s .state) 3 && (leb (s .count) 9999 && leb (s .last) 8)) _
+    (and-made (leb (s .state) 3) _ (le→leb (s .state) 3 (omega arith)) (and-made (leb (s .count) 9999) _ (le→leb (s .count) 9999 n) (le→leb (s .last) 8 l)))
+    (and-made (siteFits (isTaken s) (s .site) && not (isTooSoon (s .site .al) (s .site .filiere))) _
+    (and-made (siteFits (isTaken s) (s .site)) _ (k .sited) (k .timely))
+    (and-made (leb (s .readings) mostReadings && leb (s .lastIndex) mostIndex) _
+    (and-made (leb (s .readings) mostReadings) _ (le→leb (s .readings) mostReadings (k .readings)) (le→leb (s .lastIndex) mostIndex (k .index)))
+    (and-made (lastsFit (historyOfRec s) (s .lasts)) _ (lasts-whole (historyOfRec s) (s .lasts) (k .lasts)) tallies)))
   where
     tallies : T (talliesFit (historyOfRec s) (s .tallies))
     tallies =
-        and-both (eachYear (historyOfRec s) (λ y n. leb n (allWinterDates y)) (s .tallies .profileDates)) _
+        and-made (eachYear (historyOfRec s) (λ y n. leb n (allWinterDates y)) (s .tallies .profileDates)) _
         (each-year-map (historyOfRec s) (λ y n. leb n (winterDatesBy y (s .lasts .p))) (λ y n. leb n (allWinterDates y)) (s .tallies .profileDates)
         (λ y n u. le→leb n (allWinterDates y) (omega (arith, leb→le n (winterDatesBy y (s .lasts .p)) u, winters-most y (s .lasts .p)))) (k .profiled))
-        (and-both (eachYear (axisYears (historyOfRec s)) (λ y n. leb n (allDates y)) (s .tallies .dailyDates)) _
+        (and-made (eachYear (axisYears (historyOfRec s)) (λ y n. leb n (allDates y)) (s .tallies .dailyDates)) _
         (each-year-map (axisYears (historyOfRec s)) (λ y n. leb n (datesBy y (s .lasts .d))) (λ y n. leb n (allDates y)) (s .tallies .dailyDates)
         (λ y n u. le→leb n (allDates y) (omega (arith, leb→le n (datesBy y (s .lasts .d)) u, dates-most y (s .lasts .d)))) (k .summed))
-        (and-both (eachYear (historyOfRec s) (λ y n. leb n 1) (s .tallies .breaks)) _ (k .breaks) (k .rates)))
+        (and-made (eachYear (historyOfRec s) (λ y n. leb n 1) (s .tallies .breaks)) _ (k .breaks) (k .rates)))

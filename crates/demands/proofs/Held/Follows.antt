@@ -8,14 +8,13 @@ use lib.Dec.{T, leb, ltb, eqb}
 use lib.ListN.{length}
 use borrow.Author.Tests.{ne-eqb}
 use Rattle.lists.specs.Lists.{any, seek}
+use Rattle.lists.proofs.Tests.{and-made, and-parts}
 use Rattle.calendar.specs.Spans.{isKnown}
-use Rattle.calendar.proofs.Tables.{and-both}
 use Rattle.meaning.specs.Filing.{Site, noSite}
 use Rattle.meaning.specs.Line.{Line, S, E, rank, is, tagOf}
 use Rattle.meaning.specs.Refusals.{isTooSoon}
 use Rattle.meaning.specs.File.{siteIn, axisIn, stops, barredIn}
 use Rattle.meaning.specs.Record.{Rec, isTaken, siteOfRec, axisOfRec, isWithin, siteFits, barredBy}
-use Rattle.meaning.proofs.Accepted.{both}
 use Rattle.demands.proofs.Held.Parts.{HeldRec}
 use Rattle.demands.proofs.Held.Room.{lines-most}
 use Rattle.demands.proofs.Held.Rec.{held-history, held-count, held-barred, held-kept}
@@ -67,9 +66,9 @@ site-known : (a : Bool) (x : Site) → T a → T (siteFits a x) → T (isKnown (
 unfolding siteFits isWithin isKnown
 site-known false x u t = absurd u
 site-known true x u t =
-    let t1 = both (leb 2021 (x .al) && leb (x .al) 2026) _ t in
-    let t2 = both (leb 1 (x .filiere) && leb (x .filiere) 11) _ (t1 .1) in
-    and-both (leb 2021 (x .al) && leb (x .al) 2026) (leb 1 (x .filiere) && leb (x .filiere) 11) (t1 .0) (t2 .0)
+    let t1 = and-parts (leb 2021 (x .al) && leb (x .al) 2026) _ t in
+    let t2 = and-parts (leb 1 (x .filiere) && leb (x .filiere) 11) _ (t1 .1) in
+    and-made (leb 2021 (x .al) && leb (x .al) 2026) (leb 1 (x .filiere) && leb (x .filiere) 11) (t1 .0) (t2 .0)
 
 pub held-known : {ls : List Line} {s : Rec} → HeldRec ls s → T (isTaken s) → T (isKnown (s .site .al) (s .site .filiere))
 held-known {s = s} h t = site-known (isTaken s) (s .site) t (held-kept h .sited)

@@ -7,8 +7,9 @@ use Prim.Native.Nat.{_+_}
 use native.Mathlib.Omega.{arith}
 use lib.Dec.{T, ltb, eqb}
 use Rattle.lists.specs.Lists.{any}
-use Rattle.lists.proofs.Laws.{or-absorb, or-split, both-not, any-snoc, any-some, paired}
+use Rattle.lists.proofs.Laws.{any-snoc, any-some, paired}
 use Rattle.lists.proofs.Tables.{each-snoc}
+use Rattle.lists.proofs.Tests.{or-absorb, or-split, both-not}
 use Rattle.calendar.specs.Spans.{axisYears}
 use Rattle.note.specs.Coefficients.{caOf}
 use Rattle.meaning.specs.Filing.{Site, Filing}

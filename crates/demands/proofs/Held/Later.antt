@@ -5,10 +5,9 @@ use mathlib.Core.Option.{none}
 use Prim.Native.Nat.{ℕ, _+_, _≤_}
 use native.Mathlib.Omega.{arith}
 use lib.Dec.{T, leb, eqb, le→leb, nleb→lt}
-use Rattle.lists.proofs.Laws.{is-false}
+use Rattle.lists.proofs.Tests.{is-false, and-made, or-right}
 use Rattle.calendar.specs.declared.Years.{Years}
 use Rattle.calendar.specs.Spans.{among}
-use Rattle.calendar.proofs.Tables.{and-both}
 use Rattle.meaning.specs.Filing.{Site, noSite}
 use Rattle.meaning.specs.Line.{Line, S, C, X, D, P, B, R, rank, is, tagOf, numberAt, yearOn, monthOn, dayOn, keyOf, siteOn, mostIndex}
 use Rattle.meaning.specs.Refusals.{misplaced, tooMany, holds, refusal, mostReadings}
@@ -19,7 +18,7 @@ use Rattle.meaning.proofs.Accepted.{rate-in, is-tag}
 use Rattle.demands.proofs.Held.Counts.{datesBy, winterDatesBy, yearsBy, linesBy}
 use Rattle.demands.proofs.Held.Order.{known-tag, later-line}
 use Rattle.demands.proofs.Held.Rising.{on-C, on-X, on-D, on-P, on-B, on-R, grows-C, grows-D, grows-P, grows-B, grows-R}
-use Rattle.demands.proofs.Held.Ranges.{either-right, picked, date-fits, set-by, tally-by}
+use Rattle.demands.proofs.Held.Ranges.{picked, date-fits, set-by, tally-by}
 use Rattle.demands.proofs.Held.Fits.{LastsIn, Kept}
 use Rattle.demands.proofs.Held.Room.{part, one-reading, one-tag, marks-later}
 
@@ -34,11 +33,11 @@ index-by false v n h f = h
 
 year-fits : (h : Years) (b : Bool) (q k : ℕ) → T (yearFits h k) → (T b → T (among h q)) → T (yearFits h (cond b q k))
 unfolding yearFits
-year-fits h b q k t f = picked (yearFits h) b q k t (λ u. either-right (eqb q 0) _ (f u))
+year-fits h b q k t f = picked (yearFits h) b q k t (λ u. or-right (eqb q 0) _ (f u))
 
 rate-fits : (v : ℕ) → (10 ≤ v) × (v ≤ 1000) → T (eqb v 0 || isWithin 10 1000 v)
 unfolding isWithin
-rate-fits v h = either-right (eqb v 0) _ (and-both (leb 10 v) (leb v 1000) (le→leb 10 v (h .0)) (le→leb v 1000 (h .1)))
+rate-fits v h = or-right (eqb v 0) _ (and-made (leb 10 v) (leb v 1000) (le→leb 10 v (h .0)) (le→leb v 1000 (h .1)))
 
 -- ---- the years stay
 site-same : (a b c : Bool) (x y : Site) → T (not a) → T b → T c → cond b (cond a x y) noSite ≡ cond c y noSite

@@ -8,7 +8,8 @@ use native.Mathlib.Omega.{arith}
 use lib.Dec.{T, ltb, eqb, ltb→lt, lt→ltb, nltb→le}
 use borrow.Author.Tests.{ne-eqb}
 use Rattle.lists.specs.Lists.{any, or, orElse, seek, Each, each-nil}
-use Rattle.lists.proofs.Laws.{or-absorb, or-split, both-not, any-snoc, or-none, seek-snoc, seek-none, each-map, any-each, any-some, paired}
+use Rattle.lists.proofs.Laws.{any-snoc, or-none, seek-snoc, seek-none, each-map, any-each, any-some, paired}
+use Rattle.lists.proofs.Tests.{or-absorb, or-split, both-not}
 use Rattle.text.specs.Fields.{tabs}
 use Rattle.meaning.specs.Filing.{Meter, Site, noSite}
 use Rattle.meaning.specs.Line.{Line, Tag, S, C, X, D, P, B, R, E, other, rank, is, size, tagOf, siteOn}

@@ -7,8 +7,9 @@ use native.Mathlib.Omega.{arith}
 use lib.Dec.{T, ltb, eqb}
 use lib.ListN.{length, getD}
 use Rattle.lists.specs.Lists.{orElse, Each}
-use Rattle.lists.proofs.Laws.{is-true, each-map, length-tab, getD-tab0}
+use Rattle.lists.proofs.Laws.{each-map, length-tab, getD-tab0}
 use Rattle.lists.proofs.Tables.{each-both, found}
+use Rattle.lists.proofs.Tests.{is-true}
 use Rattle.calendar.specs.declared.Years.{Years}
 use Rattle.calendar.specs.Spans.{among}
 use Rattle.meaning.specs.Line.{Line, P, is, tagOf, yearOn, valueAt, winterOn}

@@ -9,11 +9,11 @@ use lib.Dec.{T, leb, ltb, eqb, leb→le, le→leb, eqb→eq}
 use lib.ListN.{length, getD, set}
 use borrow.Author.Tests.{lt-ltb, le-ltb}
 use Rattle.lists.proofs.Snoc.{allAt-map, allAt-at, allAt-set}
+use Rattle.lists.proofs.Tests.{and-left, and-made, or-right}
 use Rattle.calendar.specs.declared.Years.{Years}
 use Rattle.calendar.specs.Dates.{isDate, isWinter}
 use Rattle.calendar.specs.Places.{datePlace, hasDate, monthOf}
 use Rattle.calendar.specs.Spans.{years, among}
-use Rattle.calendar.proofs.Tables.{and-left, and-both}
 use Rattle.calendar.proofs.Laws.{date-day, day-place, date-at-place, among-words}
 use Rattle.meaning.specs.Line.{Line, yearOn, dateKey}
 use Rattle.meaning.specs.Record.{dateFits, yearFits, eachYear}
@@ -21,9 +21,6 @@ use Rattle.meaning.specs.Calls.{oneMore}
 use Rattle.demands.proofs.Held.Counts.{Grows}
 
 -- ---- tests
-pub either-right : (a b : Bool) → T b → T (a || b)
-either-right true b t = tt
-either-right false b t = t
 
 -- what passes of two numbers passes of the one that is picked
 pub picked : (p : ℕ → Bool) (b : Bool) (q k : ℕ) → T (p k) → (T b → T (p q)) → T (p (cond b q k))
@@ -41,8 +38,8 @@ date-fits h w y m d a t c =
     let place = day-place m d day in
     let year : (366 * y + datePlace m d) / 366 ≡ y = omega (arith, place .below) in
     let rest : (366 * y + datePlace m d) % 366 ≡ datePlace m d = omega (arith, place .below) in
-    either-right (eqb (366 * y + datePlace m d) 0) _
-    (rw (year, rest, place .month) (and-both (among h y) _ a (and-both (hasDate y (datePlace m d)) _ (rw (date-at-place y m d day) at t) (only w c))))
+    or-right (eqb (366 * y + datePlace m d) 0) _
+    (rw (year, rest, place .month) (and-made (among h y) _ a (and-made (hasDate y (datePlace m d)) _ (rw (date-at-place y m d day) at t) (only w c))))
   where
     only : (w : Bool) → (T w → T (isWinter m)) → T (not w || isWinter m)
     only true f = f tt

@@ -8,10 +8,9 @@ use native.Mathlib.Omega.{arith}
 use lib.Dec.{T, eqb}
 use lib.ListN.{length, set, length-append, length-set}
 use Rattle.lists.specs.Lists.{any, allAt, or, orElse, seek, latest, count}
-use Rattle.lists.proofs.Laws.{is-true}
 use Rattle.lists.proofs.Snoc.{latest-snoc, count-snoc}
+use Rattle.lists.proofs.Tests.{is-true, passed as test-passed}
 use Rattle.calendar.specs.Spans.{isKnown, historyYears, axisYears}
-use Rattle.calendar.proofs.Tables.{passed as test-passed}
 use Rattle.meaning.specs.Filing.{Site, noSite}
 use Rattle.meaning.specs.Line.{Line, Tag, S, C, X, D, P, B, R, E, other, rank, is, tagOf, numberAt, isRising}
 use Rattle.meaning.specs.Refusals.{Before, misplaced, holds, refusal, isTooSoon}
@@ -20,6 +19,7 @@ use Rattle.meaning.specs.Record.{Rec, emptyRec, freshRec, isTaken, siteOfRec, h
 use Rattle.meaning.specs.Calls.{oneMore, talliesAfter, recAfter}
 use Rattle.meaning.proofs.Passed.{passed}
 use Rattle.meaning.proofs.Accepted.{is-tag}
+use Rattle.meaning.proofs.Lines.{rank-most}
 use Rattle.demands.proofs.Held.Parts.{Shaped, HeldRec}
 use Rattle.demands.proofs.Held.Order.{known-tag, barred-step, site-step}
 use Rattle.demands.proofs.Held.Rising.{later, reached-step}
@@ -98,17 +98,6 @@ held-refusal h l = ap (λ (b : Before). refusal b l) (h .before)
 
 pub held-kept : {ls : List Line} {s : Rec} → HeldRec ls s → Kept s
 held-kept {s = s} h = kept-of s (h .fits) (h .profiled) (h .summed) (h .few)
-
-rank-most : (t : Tag) → rank t ≤ 8
-rank-most S = omega arith
-rank-most C = omega arith
-rank-most X = omega arith
-rank-most D = omega arith
-rank-most P = omega arith
-rank-most B = omega arith
-rank-most R = omega arith
-rank-most E = omega arith
-rank-most other = omega arith
 
 kept-after : (s : Rec) (l : Line) → refusal (beforeOf s) l ≡ none → Kept s → Kept (recAfter (tagOf l) l s)
 kept-after s l e k = go (is S (tagOf l)) refl

@@ -8,9 +8,9 @@ use native.Mathlib.Omega.{arith}
 use lib.Dec.{T, leb, eqb, leb→le, le→leb, nleb→lt}
 use borrow.Author.Tests.{ne-eqb, eqb-true}
 use Rattle.lists.specs.Lists.{any}
-use Rattle.lists.proofs.Laws.{or-absorb, any-snoc, is-true}
+use Rattle.lists.proofs.Laws.{any-snoc}
+use Rattle.lists.proofs.Tests.{or-absorb, is-true, or-false, passed as test-passed}
 use Rattle.calendar.specs.Spans.{among, isKnown, historyYears, axisYears}
-use Rattle.calendar.proofs.Tables.{passed as test-passed, or-false}
 use Rattle.calendar.proofs.Laws.{among-words, history-year, history-bounds, axis-bounds, no-axis}
 use Rattle.meaning.specs.Line.{Line, Tag, S, C, X, D, P, B, R, E, other, is, tagOf, yearOn, monthOn, dayOn, isRising, keyOf, dateKey, mostIndex, mostDaily}
 use Rattle.meaning.specs.Refusals.{notLater, holds, refusal}

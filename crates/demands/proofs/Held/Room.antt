@@ -7,12 +7,12 @@ use native.Mathlib.Omega.{arith}
 use lib.Dec.{T, leb, ltb, eqb, leb→le}
 use borrow.Author.Tests.{ne-eqb}
 use Rattle.lists.specs.Lists.{sum, tab}
-use Rattle.lists.proofs.Laws.{is-false}
 use Rattle.lists.proofs.Snoc.{one}
+use Rattle.lists.proofs.Tests.{is-false, passed, and-parts}
 use Rattle.calendar.specs.declared.Years.{Years}
 use Rattle.calendar.specs.Dates.{leap}
 use Rattle.calendar.specs.Spans.{years, among, historyLength, isKnown, historyYears, axisYears}
-use Rattle.calendar.proofs.Tables.{passed, at}
+use Rattle.calendar.proofs.Tables.{at}
 use Rattle.calendar.proofs.Laws.{known-parts, known-history, no-history, length-5-10}
 use Rattle.meaning.specs.Filing.{Meter}
 use Rattle.meaning.specs.Line.{Tag, S, C, X, D, P, B, R, E, other, rank, is}
@@ -20,7 +20,6 @@ use Rattle.meaning.specs.Refusals.{mostReadings}
 use Rattle.meaning.specs.File.{isIndexMeter}
 use Rattle.meaning.specs.Closing.{allWinterDates, allDates}
 use Rattle.meaning.specs.Record.{Rec, siteOfRec, historyOfSite, historyOfRec, axisOfRec, barredBy}
-use Rattle.meaning.proofs.Accepted.{both}
 use Rattle.demands.proofs.Held.Counts.{datesBy, winterDatesBy, yearsBy, over, marks, linesBy, Grows, over-grows, over-rises, dates-most, winters-most, years-most}
 use Rattle.demands.proofs.Held.Order.{later-line}
 
@@ -125,7 +124,7 @@ lines-most s r = omega (
     h = historyYears (siteOfRec s .al) (siteOfRec s .filiere)
 
     t1 : T (leb (over h allWinterDates) 1513) × T (leb (over (axisYears h) allDates) 4383 && leb (over h (λ y. 1)) 10)
-    t1 = both (leb (over h allWinterDates) 1513) _ (few-dates (siteOfRec s .al) (siteOfRec s .filiere))
+    t1 = and-parts (leb (over h allWinterDates) 1513) _ (few-dates (siteOfRec s .al) (siteOfRec s .filiere))
 
     t2 : T (leb (over (axisYears h) allDates) 4383) × T (leb (over h (λ y. 1)) 10)
-    t2 = both (leb (over (axisYears h) allDates) 4383) _ (t1 .1)
+    t2 = and-parts (leb (over (axisYears h) allDates) 4383) _ (t1 .1)

@@ -7,8 +7,8 @@ use native.Mathlib.Omega.{arith}
 use lib.Dec.{T, ltb, ltb→lt, lt→ltb}
 use lib.ListN.{length, getD}
 use lib.Seq.{sets}
-use Rattle.lists.proofs.Laws.{is-true}
-use Rattle.lists.proofs.Tables.{and-parts, getD-sets-same, getD-sets-other}
+use Rattle.lists.proofs.Tables.{getD-sets-same, getD-sets-other}
+use Rattle.lists.proofs.Tests.{is-true, and-parts}
 use Rattle.meaning.specs.Blocks.{rowSize, slotAt}
 
 -- a look-up that reads only where its test passes

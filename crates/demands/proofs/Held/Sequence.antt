@@ -8,7 +8,8 @@ use native.Mathlib.Omega.{arith}
 use lib.Dec.{T, leb, ltb, le→leb, lt→ltb, nltb→le}
 use Rattle.lists.specs.Lists.{all, orElse, latest, present, Each}
 use Rattle.lists.proofs.Laws.{paired}
-use Rattle.lists.proofs.Tables.{and-parts, and-made, all-snoc, each-both, neighbours-snoc, latest-present, latest-some, latest-map}
+use Rattle.lists.proofs.Tables.{all-snoc, each-both, neighbours-snoc, latest-present, latest-some, latest-map}
+use Rattle.lists.proofs.Tests.{and-parts, and-made}
 use Rattle.calendar.specs.declared.Years.{Years}
 use Rattle.calendar.specs.Places.{hasDate}
 use Rattle.calendar.specs.Spans.{among, positionOf, yearAt, placeAt}

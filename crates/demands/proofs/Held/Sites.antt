@@ -5,7 +5,7 @@ use mathlib.Core.List.{List, [], _∷_, _++_}
 use mathlib.Core.Option.{none}
 use lib.Dec.{T, ltb, eqb}
 use Rattle.lists.specs.Lists.{Each, each-nil, each-cons}
-use Rattle.lists.proofs.Laws.{or-split, both-not, is-false, is-true}
+use Rattle.lists.proofs.Tests.{or-split, both-not, is-false, is-true}
 use Rattle.calendar.specs.Spans.{axisYears}
 use Rattle.meaning.specs.Line.{Line, S, rank, is, tagOf}
 use Rattle.meaning.specs.Refusals.{Before, misplaced, holds}

@@ -7,7 +7,7 @@ use lib.Dec.{T, eqb, eqb→eq}
 use lib.ListN.{length, set, length-set, length-replicate}
 use lib.Seq.{sets, length-sets}
 use borrow.Author.Tests.{eq-eqb}
-use Rattle.lists.proofs.Tables.{and-parts}
+use Rattle.lists.proofs.Tests.{and-parts}
 use Rattle.meaning.specs.Level.{missingEntry}
 use Rattle.meaning.specs.Line.{Line, Tag, X, D, is, numberAt}
 use Rattle.meaning.specs.Blocks.{World, missingPoint, pointsSize, slotsSize, dailySize, readingsSize, curveSize, sizesFit, freshReading, freshWorld}

@@ -4,7 +4,7 @@ use mathlib.Core.Bool.{Bool, true, false, _&&_}
 use mathlib.Core.List.{List, [], _∷_, _++_}
 use mathlib.Core.Option.{Option, some, none}
 use Prim.Native.Nat.{ℕ}
-use Rattle.lists.proofs.Laws.{is-true}
+use Rattle.lists.proofs.Tests.{is-true}
 use Rattle.meaning.specs.Line.{Line, S, is, tagOf}
 use Rattle.meaning.specs.File.{refusalAt, filingIn}
 use Rattle.meaning.specs.Blocks.{World, sizesFit}

@@ -10,8 +10,9 @@ use lib.ListN.{length, getD, set}
 use lib.Seq.{getD-set-same, getD-set-other}
 use borrow.Author.Tests.{eq-eqb, ne-eqb}
 use Rattle.lists.specs.Lists.{Each}
-use Rattle.lists.proofs.Laws.{is-true, each-map}
-use Rattle.lists.proofs.Tables.{and-parts, found, any-held, count-held}
+use Rattle.lists.proofs.Laws.{each-map}
+use Rattle.lists.proofs.Tables.{found, any-held, count-held}
+use Rattle.lists.proofs.Tests.{is-true, and-parts}
 use Rattle.calendar.specs.declared.Years.{Years}
 use Rattle.calendar.specs.Spans.{among}
 use Rattle.calendar.proofs.Laws.Positions.{among-words}

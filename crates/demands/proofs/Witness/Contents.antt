@@ -10,7 +10,7 @@ use Rattle.calendar.specs.Dates.{longest, monthLengths, isWinter}
 use Rattle.calendar.specs.Places.{winterBefore, winterPlace}
 use Rattle.note.specs.Peaks.{annex1, dayCounts, hasPeaks, peakCount, peakStart, peakDays}
 use Rattle.text.specs.Fields.{upTo, past, restAt, fieldAt}
-use Rattle.text.specs.Numbered.{valueFrom, valueOf, isDash}
+use Rattle.text.specs.Numbers.{valueFrom, valueOf, isDash}
 use Rattle.meaning.specs.Filing.{site, curveMeter}
 use Rattle.meaning.specs.Line.{P, D, tagOfLetter, tagOfField, tagOf, meterOfLetter, meterOf, numberAt, siteOn, pointOf, winterOn}
 use Rattle.meaning.specs.File.{siteIn, pointOn, pointIn, readingOn, readingsIn, brokenIn, rateIn, datesIn, endedIn, filingIn}

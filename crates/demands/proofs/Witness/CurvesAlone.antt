@@ -9,8 +9,9 @@ use native.Mathlib.Omega.{arith}
 use lib.Dec.{T, eqb}
 use borrow.Author.Tests.{le-ltb}
 use Rattle.lists.specs.Lists.{any, firstOf, sum, count, neighbours, Each, each-nil, each-cons}
-use Rattle.lists.proofs.Laws.{is-true, each-map, some-any}
+use Rattle.lists.proofs.Laws.{each-map, some-any}
 use Rattle.lists.proofs.Sums.{Held, each-picture, some-picture, each-present}
+use Rattle.lists.proofs.Tests.{is-true}
 use Rattle.calendar.specs.Dates.{monthLengths, longest, daysIn, isDate}
 use Rattle.calendar.specs.Places.{before, monthOf, dayOf, hasDate, dateOfWinter, hasWinterDate}
 use Rattle.rounding.specs.Points.{rounded, rebuilt, mostPoint, exceeds}

@@ -5,10 +5,10 @@ use Rattle.lists.specs.Lists.{any, all, seek, latest, count, firstOf, flat, sum
 use Rattle.calendar.specs.Dates.{leap, monthLengths, longest, daysIn, isDate, isWinter}
 use Rattle.calendar.specs.Places.{before, datePlace}
 use Rattle.calendar.specs.Spans.{among, historyLength, isKnown, historyYears}
-use Rattle.text.specs.Fields.{upTo, past, tabs, restAt, fieldAt, reads, edition}
-use Rattle.text.specs.Numbered.{isDigit, isNumber, valueFrom, valueOf, isDash}
+use Rattle.text.specs.Fields.{upTo, past, tabs, restAt, fieldAt, reads, edition, isStrange}
+use Rattle.text.specs.Numbers.{isDigit, isNumber, valueFrom, valueOf, isDash}
 use Rattle.meaning.specs.Line.{tagOfLetter, tagOfField, tagOf, formsOf, meterOfLetter, meterOf, inForm, inRange, someField, numberAt, siteOn, dateKey, keyOf, isRising}
-use Rattle.meaning.specs.Refusals.{isStrange, isTooSoon, isIllegible, isUnknown, isMalformed, isOutside, hasNoDate, holds, order, refusal}
+use Rattle.meaning.specs.Refusals.{isTooSoon, isIllegible, isUnknown, isMalformed, isOutside, hasNoDate, holds, order, refusal}
 use Rattle.meaning.specs.File.{siteIn, historyIn, stops, barredIn, reachedIn, lastIndexIn, beforeIn, refusalAt}
 use Rattle.demands.specs.Witness.{siteLine, curveLine, endLine, witnessLines}
 use Rattle.demands.proofs.Witness.Taken.{Taken, after, ended}

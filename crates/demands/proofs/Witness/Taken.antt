@@ -7,7 +7,7 @@ use Prim.Native.Nat.{ℕ}
 use lib.Dec.{T, eqb, ltb, ltb→lt}
 use lib.ListN.{length}
 use Rattle.lists.specs.Lists.{or, orElse, seek, Each, each-nil, each-cons, Some, here, there}
-use Rattle.lists.proofs.Laws.{is-true}
+use Rattle.lists.proofs.Tests.{is-true}
 use Rattle.meaning.specs.Filing.{Filing}
 use Rattle.meaning.specs.Line.{Line, C, is, tagOf, yearOn, pointOf, winterOn}
 use Rattle.meaning.specs.Refusals.{Reason}

@@ -7,8 +7,8 @@ use Prim.Native.Nat.{ℕ, _+_}
 use native.Mathlib.Omega.{arith}
 use lib.Dec.{T, eqb, not-T}
 use borrow.Author.Tests.{eq-eqb, ne-eqb, eqb-false}
-use Rattle.lists.proofs.Laws.{is-true, is-false}
 use Rattle.lists.proofs.Reflect.{of-and}
+use Rattle.lists.proofs.Tests.{is-false, is-true}
 use Rattle.meaning.specs.Line.{Line}
 use Rattle.meaning.specs.Refusals.{Reason, numberOf, refusal}
 use Rattle.meaning.specs.Level.{reportOf, curveOf}

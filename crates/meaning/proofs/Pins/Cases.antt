@@ -7,8 +7,8 @@ use Prim.Native.Nat.{ℕ}
 use lib.Dec.{T, eqb}
 use Rattle.lists.specs.Lists.{any, Some}
 use Rattle.lists.proofs.Reflect.{of-eq, of-any}
-use Rattle.lists.proofs.Laws.{both-not}
 use Rattle.lists.proofs.Words.{map-some, some-range}
+use Rattle.lists.proofs.Tests.{both-not}
 use Rattle.calendar.specs.declared.Years.{Years}
 use Rattle.calendar.specs.Spans.{among, historyYears, axisYears}
 use Rattle.calendar.proofs.Laws.Positions.{among-words}

@@ -9,11 +9,12 @@ use native.Mathlib.Omega.{arith}
 use lib.Dec.{T, leb, ltb, eqb, leb→le, nleb→lt, not-T}
 use lib.ListN.{length, replicate}
 use borrow.Author.Tests.{eqb-true, leb-true, leb-false}
+use Rattle.text.proofs.NumberLaws.{of-number, of-dash}
 use Rattle.lists.specs.Lists.{any, all, count, seek, latest, orElse, Each, each-nil, each-cons, Some}
 use Rattle.lists.specs.Words.{Tally, First, Last}
-use Rattle.lists.proofs.Laws.{is-true}
 use Rattle.lists.proofs.Reflect.{of-eq, of-le, of-lt, of-or, of-and, of-not, of-any, of-all}
 use Rattle.lists.proofs.Words.{none-some, first-some, of-seek, of-latest, of-count, Front, front-nil, front-cons, of-order, of-order-none}
+use Rattle.lists.proofs.Tests.{is-true}
 use Rattle.calendar.specs.Dates.{isDate, isWinter, isDay}
 use Rattle.calendar.specs.Places.{datePlace}
 use Rattle.calendar.specs.Spans.{years, among, axisYears, positionOf}
@@ -21,12 +22,12 @@ use Rattle.calendar.specs.Words.{EarlierDate}
 use Rattle.calendar.proofs.Tables.{beq→eq}
 use Rattle.calendar.proofs.Laws.Days.{date-day}
 use Rattle.calendar.proofs.Laws.Positions.{earlier-position}
-use Rattle.text.specs.Fields.{upTo, past, tabs, restAt, fieldAt, reads, edition as editionText}
-use Rattle.text.specs.Numbered.{isNumber, valueOf, isDash}
-use Rattle.text.proofs.Laws.{of-reads, of-number, of-dash}
+use Rattle.text.specs.Fields.{upTo, past, tabs, restAt, fieldAt, reads, edition as editionText, isStrange}
+use Rattle.text.specs.Numbers.{isNumber, valueOf, isDash}
+use Rattle.text.proofs.Laws.{of-reads}
 use Rattle.meaning.specs.Filing.{noMeter, curveMeter, indexMeter, Site, noSite, real, corrected, estimated, strange}
 use Rattle.meaning.specs.Line.{Line, Tag, S, C, X, D, P, B, R, E, other, rank, is, tagOf, Form, number, numberOrDash, mostPower, mostIndex, mostDaily, mostProfile, formsOf, size, meterOfLetter, meterOf, isMeter, kindOfLetter, kindOf, isKind, inForm, inRange, someField, numberAt, yearOn, monthOn, dayOn, siteOn, hasDateOn, isWinterTag, hasYearOn, dateKey, keyOf, isRising}
-use Rattle.meaning.specs.Refusals.{Reason, illegible, unknown, misplaced, malformed, outside, noDate, notLater, tooSoon, falling, tooMany, miscounted, numberOf, isStrange, isTooSoon, isIllegible, isUnknown, isMalformed, isOutside, hasNoDate, holds, order, refusal}
+use Rattle.meaning.specs.Refusals.{Reason, illegible, unknown, misplaced, malformed, outside, noDate, notLater, tooSoon, falling, tooMany, miscounted, numberOf, isTooSoon, isIllegible, isUnknown, isMalformed, isOutside, hasNoDate, holds, order, refusal}
 use Rattle.meaning.specs.File.{siteIn, historyIn, stops, isIndexMeter, barredIn, reachedIn, lastIndexIn, beforeIn, refusalAt}
 use Rattle.meaning.specs.Words.Dates.{Winter, Date}
 use Rattle.meaning.specs.Words.Lines.{Strange, HasFields, after, IndexFile, Stopped, Misplaced, Number, Malformed, Off, OffHistory, OffAxis, Outside, Dated, OnlyWinter, Rising, Words, earlier, RefusalWords}

@@ -11,17 +11,18 @@ use lib.ListN.{length}
 use borrow.Author.Tests.{eqb-true}
 use Rattle.lists.specs.Lists.{orElse, seek, present, Each, each-nil, Some}
 use Rattle.lists.specs.Words.{First}
-use Rattle.lists.proofs.Laws.{both-not, is-true, some-map}
+use Rattle.lists.proofs.Laws.{some-map}
 use Rattle.lists.proofs.Reflect.{of-eq, of-lt, of-and, of-any}
 use Rattle.lists.proofs.Tables.{each-snoc}
 use Rattle.lists.proofs.Words.{none-some, some-cons, some-append, of-none, of-seek, seek-empty, of-count, first-has, first-append, first-snoc, first-with, some-each, present-keep}
+use Rattle.lists.proofs.Tests.{both-not, is-true}
 use Rattle.calendar.specs.Dates.{isDate, isWinter}
 use Rattle.calendar.specs.Places.{dateOfWinter}
 use Rattle.calendar.proofs.Laws.Days.{date-day}
 use Rattle.calendar.proofs.Laws.Winter.{winter-day-place}
 use Rattle.text.specs.Fields.{fieldAt}
-use Rattle.text.specs.Numbered.{isDash}
-use Rattle.text.proofs.Laws.{of-dash}
+use Rattle.text.specs.Numbers.{isDash}
+use Rattle.text.proofs.NumberLaws.{of-dash}
 use Rattle.meaning.specs.Filing.{noMeter, curveMeter, indexMeter, Kind, real, corrected, estimated, strange}
 use Rattle.meaning.specs.Line.{Line, Tag, S, C, X, D, P, B, R, E, is, tagOf, meterOfLetter, meterOf, numberAt, yearOn, monthOn, dayOn, siteOn, valueAt, pointOf, kindOfLetter, kindOf, hasDateOn, dateKey, keyOf, winterOn, placeOn}
 use Rattle.meaning.specs.Refusals.{Reason, misplaced, noDate, notLater}

@@ -11,11 +11,12 @@ use lib.ListN.{length, getD}
 use borrow.Author.Tests.{lt-ltb, ne-eqb}
 use Rattle.lists.specs.Lists.{isSome, flat, tab, present, sum, count, Each}
 use Rattle.lists.specs.Words.{Tally}
-use Rattle.lists.proofs.Laws.{is-false, length-tab, getD-tab0}
+use Rattle.lists.proofs.Laws.{length-tab, getD-tab0}
 use Rattle.lists.proofs.Reflect.{of-eq, of-not, of-and, of-lt}
 use Rattle.lists.proofs.Words.{of-none, of-count, count-flat, count-none, present-count, sum-same, some-at}
 use Rattle.lists.proofs.Tables.{tab-same}
 use Rattle.lists.proofs.Blocks.{tab-shift, map-range, sum-blocks, count-blocks, sum-short, sum-places, count-same}
+use Rattle.lists.proofs.Tests.{is-false}
 use Rattle.calendar.specs.Spans.{isKnown, historyYears}
 use Rattle.calendar.proofs.Laws.Positions.{among-words, history-short, no-history}
 use Rattle.note.specs.Peaks.{peakDays, peakCount}

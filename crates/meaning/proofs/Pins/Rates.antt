@@ -4,12 +4,12 @@ use mathlib.Core.Logic.{_↔_, _⊎_, inl, inr, Iff·trans}
 use mathlib.Core.Bool.{Bool, true, false}
 use mathlib.Core.List.{List, [], _∷_, map, foldr}
 use mathlib.Core.Option.{some}
-use Prim.Native.Nat.{ℕ, _≤_, min}
+use Prim.Native.Nat.{ℕ, min}
 use native.Mathlib.Omega.{arith}
 use lib.Dec.{leb}
 use borrow.Author.Tests.{leb-true, leb-false}
-use Rattle.lists.specs.Lists.{present, Each, each-nil, each-cons, Some, here, there}
-use Rattle.lists.proofs.Laws.{each-map, some-map, paired}
+use Rattle.lists.specs.Lists.{present, Some, here, there}
+use Rattle.lists.proofs.Laws.{some-map, paired, least-top, least-each}
 use Rattle.lists.proofs.Words.{map-some, some-present}
 use Rattle.meaning.specs.Filing.{Filing, historyList}
 use Rattle.meaning.specs.Points.{appliedRate}
@@ -17,15 +17,6 @@ use Rattle.meaning.specs.Level.{lowestRate}
 use Rattle.meaning.specs.Words.Years.{SomeYear}
 use Rattle.meaning.specs.Words.Calls.{LowestWords}
 use Rattle.meaning.proofs.Pins.Cases.{some-history}
-
--- the least of some numbers and n
-least-start : (n : ℕ) (xs : List ℕ) → foldr min n xs ≤ n
-least-start n [] = omega arith
-least-start n (x ∷ xs) = omega (arith, least-start n xs)
-
-least-each : (n : ℕ) (xs : List ℕ) → Each (λ x. foldr min n xs ≤ x) xs
-least-each n [] = each-nil
-least-each n (x ∷ xs) = each-cons {x = x} (omega arith) (each-map (λ y (h : foldr min n xs ≤ y). omega arith) (least-each n xs))
 
 least-is : (n : ℕ) (xs : List ℕ) → (foldr min n xs ≡ n) ⊎ Some (λ x. x ≡ foldr min n xs) xs
 least-is n [] = inl refl
@@ -48,7 +39,7 @@ lowest-words = record {
     | inl e ↦ inl e
     | inr s ↦ inr (let q = some-rate {Q = λ x. x ≡ foldr min 1000 (present (map (appliedRate F) (historyList F)))} F .0 s in (q .0, q .1, q .2 .1 ∙ ap some (q .2 .2)))
   ];
-  most = λ F. least-start 1000 (present (map (appliedRate F) (historyList F)));
+  most = λ F. least-top 1000 (present (map (appliedRate F) (historyList F)));
   least = λ F y r h e.
       let q = paired (some-rate {Q = λ x. x ≡ r} F .1 (y, h, (r, e, refl))) (least-each 1000 (present (map (appliedRate F) (historyList F)))) in
       omega (arith, q .1, q .2);

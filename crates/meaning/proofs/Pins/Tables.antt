@@ -7,8 +7,8 @@ use Prim.Native.Nat.{ℕ, _+_}
 use lib.Dec.{T, eqb}
 use lib.ListN.{getD, length}
 use borrow.Author.Tests.{eqb-true}
-use Rattle.lists.proofs.Laws.{both-not}
 use Rattle.lists.proofs.Reflect.{of-eq}
+use Rattle.lists.proofs.Tests.{both-not}
 use Rattle.text.specs.Fields.{upTo, restAt, fieldAt}
 use Rattle.meaning.specs.Line.{Line, Tag, S, C, X, D, P, B, R, E, other, rank, is, tagOfLetter, tagOfField, tagOf, size, formsOf}
 use Rattle.meaning.specs.Refusals.{numberOf}

@@ -3,9 +3,10 @@ use borrow.Author.Needs.{needs}
 use borrow.Author.Tests.{le-leb, lt-leb, not-true, not-false}
 use native.Mathlib.Omega.{arith}
 use Prim.Native.Nat.{_-_}
+use Rattle.lists.proofs.Tests.{passed}
 use Rattle.meaning.specs.Blocks.{isNear, nearStart, farStart}
 use Rattle.blocks.specs.Rows.{rowOf}
-use Rattle.blocks.proofs.Parts.{held, truth}
+use Rattle.blocks.proofs.Parts.{held}
 use Rattle.blocks.proofs.year_rows.row.Statement.{statement}
 use Rattle.blocks.proofs.year_rows.row.Tie as tie
 
@@ -22,12 +23,12 @@ returns c = simp (sym (c .before .before .holds-year .ensures) ∙ not-true _ (c
 sub-first : tie.Need-sub-first
 sub-first c =
     let b = c .before in let a = c .before .before .before .before .args in
-    omega (arith, held (a .al) (a .year) (truth _ (sym (b .holds-year .ensures) ∙ not-false _ (c .if1 .left))))
+    omega (arith, held (a .al) (a .year) (passed _ (sym (b .holds-year .ensures) ∙ not-false _ (c .if1 .left))))
 
 row-part-requires : tie.Need-row-part-requires
 row-part-requires c κs =
     let b = c .before .before in let a = b .before .before .before .args in
-    omega (arith, held (a .al) (a .year) (truth _ (sym (b .holds-year .ensures) ∙ not-false _ (c .before .if1 .left))))
+    omega (arith, held (a .al) (a .year) (passed _ (sym (b .holds-year .ensures) ∙ not-false _ (c .before .if1 .left))))
 
 returns-2 : tie.Need-returns-2
 unfolding rowOf isNear nearStart
@@ -38,12 +39,12 @@ returns-2 c =
 sub-row-part : tie.Need-sub-row-part
 sub-row-part c =
     let b = c .before .before in let a = b .before .before .before .args in
-    omega (arith, held (a .al) (a .year) (truth _ (sym (b .holds-year .ensures) ∙ not-false _ (c .before .if1 .left))))
+    omega (arith, held (a .al) (a .year) (passed _ (sym (b .holds-year .ensures) ∙ not-false _ (c .before .if1 .left))))
 
 sub-row-part-2 : tie.Need-sub-row-part-2
 sub-row-part-2 c =
     let b = c .before .before in let a = b .before .before .before .args in
-    omega (arith, held (a .al) (a .year) (truth _ (sym (b .holds-year .ensures) ∙ not-false _ (c .before .if1 .left))))
+    omega (arith, held (a .al) (a .year) (passed _ (sym (b .holds-year .ensures) ∙ not-false _ (c .before .if1 .left))))
 
 row-part-requires-2 : tie.Need-row-part-requires-2
 row-part-requires-2 c κs = search needs

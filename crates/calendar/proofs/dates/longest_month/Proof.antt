@@ -1,6 +1,6 @@
 use mathlib.Core.Path.{refl, sym}
 use Rattle.calendar.specs.Dates.{longest, monthLengths}
-use Rattle.calendar.proofs.DateLaws.{no-month}
+use Rattle.calendar.proofs.Laws.{no-month}
 use borrow.Author.Needs.{needs}
 use Rattle.calendar.proofs.dates.longest_month.Statement.{statement}
 use Rattle.calendar.proofs.dates.longest_month.Tie as tie

@@ -3,10 +3,10 @@ use mathlib.Core.Bool.{true}
 use native.Mathlib.Omega.{arith}
 use borrow.Author.Needs.{needs}
 use borrow.Author.Tests.{not-true, not-false}
+use Rattle.lists.proofs.Tests.{passed}
 use Rattle.calendar.specs.Dates.{isDay}
 use Rattle.calendar.specs.Places.{datePlace}
 use Rattle.calendar.specs.Answers.{datePlaceOf}
-use Rattle.calendar.proofs.Tables.{passed}
 use Rattle.calendar.proofs.Laws.{day-parts, day-place}
 use Rattle.calendar.proofs.places.date_place.Statement.{statement}
 use Rattle.calendar.proofs.places.date_place.Tie as tie

@@ -4,10 +4,10 @@ use Prim.Native.Nat.{_+_, _-_}
 use native.Mathlib.Omega.{arith}
 use borrow.Author.Needs.{needs}
 use borrow.Author.Tests.{not-true, not-false}
+use Rattle.lists.proofs.Tests.{passed}
 use Rattle.calendar.specs.Dates.{isDay, isWinter}
 use Rattle.calendar.specs.Places.{before, datePlace, winterBefore, winterPlace}
 use Rattle.calendar.specs.Answers.{winterPlaceOf}
-use Rattle.calendar.proofs.Tables.{passed}
 use Rattle.calendar.proofs.Laws.{day-parts, day-place}
 use Rattle.calendar.proofs.Laws.Months.{winter-start, winter-end}
 use Rattle.calendar.proofs.places.winter_place.Statement.{statement}

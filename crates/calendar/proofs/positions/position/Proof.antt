@@ -4,11 +4,11 @@ use Prim.Native.Nat.{_≤_, _<_, _+_}
 use native.Mathlib.Omega.{arith}
 use borrow.Author.Needs.{needs}
 use borrow.Author.Tests.{not-true, not-false}
+use Rattle.lists.proofs.Tests.{passed}
 use Rattle.calendar.specs.Dates.{isDate}
 use Rattle.calendar.specs.Spans.{among}
 use Rattle.calendar.specs.Answers.{positionIn}
 use Rattle.calendar.specs.declared.Years.{Years}
-use Rattle.calendar.proofs.Tables.{passed}
 use Rattle.calendar.proofs.Laws.{among-words, axis-range}
 use Rattle.calendar.proofs.Laws.Answers.{place-below, position-by, date-has-place}
 use Rattle.calendar.proofs.positions.position.Statement.{statement}

@@ -1,7 +1,7 @@
 use mathlib.Core.Path.{sym}
 use native.Mathlib.Omega.{arith}
 use borrow.Author.Needs.{needs}
-use Rattle.calendar.proofs.DateLaws.Months.{december, next-month, this-month}
+use Rattle.calendar.proofs.Laws.Months.{december, next-month, this-month}
 use Rattle.calendar.proofs.rows.month_at.Statement.{statement}
 use Rattle.calendar.proofs.rows.month_at.Tie as tie
 

@@ -10,7 +10,7 @@ use Rattle.lists.specs.Lists.{sum}
 use Rattle.calendar.specs.Dates.{monthLengths}
 use Rattle.calendar.specs.Places.{before}
 use Rattle.calendar.proofs.Tables.{at}
-use Rattle.calendar.proofs.DateLaws.{before-past}
+use Rattle.calendar.proofs.Laws.{before-past}
 use Rattle.calendar.proofs.rows.start.Statement.{statement}
 use Rattle.calendar.proofs.rows.start.Tie as tie
 

@@ -4,8 +4,8 @@ use mathlib.Core.Logic.{⊎-elim}
 use native.Mathlib.Omega.{arith}
 use borrow.Author.Needs.{needs}
 use borrow.Author.Tests.{not-true, not-false}
+use Rattle.lists.proofs.Tests.{passed}
 use Rattle.calendar.specs.Spans.{isKnown, historyYears}
-use Rattle.calendar.proofs.Tables.{passed}
 use Rattle.calendar.proofs.Laws.{known-parts, length-5-10}
 use Rattle.calendar.proofs.spans.history.Statement.{statement}
 use Rattle.calendar.proofs.spans.history.Tie as tie

@@ -1,11 +1,12 @@
 use borrow.Author.Needs.{needs}
-use mathlib.Core.Path.{_≡_}
+use mathlib.Core.Path.{_≡_, _∙_}
 use Prim.Native.Nat.{_+_, _-_, _≤_}
 use native.Mathlib.Omega.{arith}
 use lib.ListN.{getD}
 use Rattle.history.proofs.Ten.{none-yet, one-more, at-end}
 use Rattle.history.specs.Marks.{byHistory}
 use Rattle.close.specs.FileTold.{noYear}
+use Rattle.close.specs.Ends.{noYears}
 use Rattle.close.specs.ReportRows.{rowIn, rowsIn}
 use Rattle.close.proofs.report.rows.Statement.{statement}
 use Rattle.close.proofs.report.rows.Tie as tie
@@ -16,8 +17,12 @@ Inv-loop h codes present n years₀ k₀ years k = (k ≤ n) × (years ≡ byHis
 abbrev μ-loop : tie.MeasureT-loop
 μ-loop h codes present n years₀ k₀ years k = n - k
 
+no-years-requires : tie.Need-no-years-requires Inv-loop μ-loop
+no-years-requires c κs = search needs
+
 loop-holds : tie.Need-loop-holds Inv-loop μ-loop
-loop-holds c = (omega arith, none-yet noYear _)
+unfolding noYears
+loop-holds c = (omega arith, c .no-years .ensures ∙ none-yet noYear _)
 
 add-row : tie.Need-add-row Inv-loop μ-loop
 add-row c = search needs
@@ -52,7 +57,7 @@ loop-less c = search needs
 loop-again : tie.Need-loop-again Inv-loop μ-loop
 loop-again c =
     let l = c .before .before .before .loop in
-    let s = c .before .before .before .before in
+    let s = c .before .before .before .before .before in
     let a = s .args in
     let t = c .before .before .loop-test .taken in
     (omega arith, one-more noYear (λ j. rowIn (a .h .first + j) (getD (a .t2) j 0) (getD (a .t3) j 0)) (l .k) (c .row .result) (l .years) (omega (arith, t, s .pre .1)) (c .row .ensures) (l .inv .1))
@@ -61,7 +66,7 @@ returns : tie.Need-returns Inv-loop μ-loop
 unfolding rowsIn
 returns c =
     let l = c .before .loop in
-    let a = c .before .before .args in
+    let a = c .before .before .before .args in
     at-end noYear (λ j. rowIn (a .h .first + j) (getD (a .t2) j 0) (getD (a .t3) j 0)) (l .k) (a .h .count) (l .years) (l .inv .0) (c .loop-test .left) (l .inv .1)
 
 pub rows-spec : {M : Type 1} → statement M
@@ -70,6 +75,7 @@ rows-spec =
     (tie.spec
     Inv-loop
     μ-loop
+    no-years-requires
     loop-holds
     add-row
     mul-row

@@ -1,28 +1,12 @@
-use mathlib.Core.Path.{_≡_, sym, _∙_}
+use mathlib.Core.Path.{sym, _∙_}
 use native.Mathlib.Omega.{arith}
-use borrow.Author.Tests.{lt-ltb}
-use Prim.Native.Nat.{ℕ, _<_}
-use lib.ListN.{getD}
-use Rattle.note.specs.Peaks.{peakDays, peakCount}
-use Rattle.note.specs.Answers.{peakDay}
-use Rattle.note.specs.declared.peaks.PeakDay.the-variants.{Place, Nothing}
-use Rattle.note.proofs.PeakDays.{in-winter}
+use Rattle.note.proofs.PeakDays.{in-winter, place-is, not-nothing}
 use borrow.Author.Needs.{needs}
 use Rattle.curve.proofs.places.peak_place.Statement.{statement}
 use Rattle.curve.proofs.places.peak_place.Tie as tie
 use Rattle.curve.proofs.places.peak_place.Reads as reads
 use Rattle.curve.proofs.places.peak_place.Lts as lts
 use Rattle.note.proofs.peak_day.Reads as peak-day-reads
-
-there : (y j : ℕ) → j < peakCount y → peakDay y j ≡ Place (getD (peakDays y) j 0)
-unfolding peakDay
-there y j h = rw (lt-ltb j (peakCount y) h)
-
-place-is : (y j w : ℕ) → j < peakCount y → peakDay y j ≡ Place w → w ≡ getD (peakDays y) j 0
-place-is y j w h e = let p : Place w ≡ Place (getD (peakDays y) j 0) = sym e ∙ there y j h in cc
-
-not-nothing : (y j : ℕ) → j < peakCount y → peakDay y j ≡ Nothing → ⊥
-not-nothing y j h e = let p : Nothing ≡ Place (getD (peakDays y) j 0) = sym e ∙ there y j h in let z : _≡_ {A = ℕ} 0 1 = cc in omega arith
 
 peak-day-requires : tie.Need-peak-day-requires
 peak-day-requires c κs = search needs

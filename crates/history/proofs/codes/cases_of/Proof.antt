@@ -3,9 +3,10 @@ use Prim.Native.Nat.{ℕ, _-_, _≤_}
 use borrow.Author.Needs.{needs}
 use native.Mathlib.Omega.{arith}
 use lib.ListN.{length, set}
+use Rattle.history.specs.Years.{isSet}
 use Rattle.lists.specs.Lists.{tab}
 use Rattle.lists.proofs.Laws.{length-tab}
-use Rattle.history.specs.Cases.{isSet, codeOfCase, caseCodes}
+use Rattle.history.specs.Cases.{codeOfCase, caseCodes}
 use Rattle.history.proofs.CaseMarks.{case-in, codeUpTo, code-on}
 use Rattle.history.proofs.codes.cases_of.Statement.{statement}
 use Rattle.history.proofs.codes.cases_of.Tie as tie

@@ -4,7 +4,7 @@ use native.Mathlib.Omega.{arith}
 use Prim.Native.Nat.{_-_, _≤_}
 use lib.ListN.{length, drop}
 use Rattle.lists.specs.Lists.{any}
-use Rattle.text.proofs.Laws.{any-here, any-on, any-end}
+use Rattle.text.proofs.NumberLaws.{any-here, any-on, any-end}
 use Rattle.line_form.specs.Rows.{isAbove}
 use Rattle.line_checks.proofs.value_ranges.some_above.Statement.{statement}
 use Rattle.line_checks.proofs.value_ranges.some_above.Tie as tie

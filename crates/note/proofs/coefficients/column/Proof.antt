@@ -1,8 +1,8 @@
 use mathlib.Core.Path.{sym}
 use borrow.Author.Needs.{needs}
 use lib.ListN.{List·getD-eq-default}
+use Rattle.lists.proofs.Ranges.{getD-any}
 use Rattle.note.specs.Coefficients.{columns, columnOf}
-use Rattle.note.proofs.Table.{default}
 use Rattle.note.proofs.coefficients.column.Statement.{statement}
 use Rattle.note.proofs.coefficients.column.Tie as tie
 
@@ -14,7 +14,7 @@ array-read-result c = search needs
 
 returns : tie.Need-returns
 unfolding columnOf columns
-returns c = default columns (c .before .args .filiere) 0 7 (c .if1 .taken)
+returns c = getD-any columns (c .before .args .filiere) 0 7 (c .if1 .taken)
 
 returns-2 : tie.Need-returns-2
 unfolding columnOf columns

@@ -47,7 +47,7 @@ use types.Run.{returns as ret}
 use denote.Struct.Laws as LL
 use Rattle.readings.specs.Readings.{seen}
 use Rattle.readings.specs.Columns.{world}
-use Rattle.piece_lines.specs.Turns.{turnOf}
+use Rattle.piece_lines.specs.Turns.{turnOf, hasLine}
 use Rattle.piece_lines.specs.Gives.{Gives}
 use Rattle.piece_lines.proofs.Again.{Lent, lends, returns}
 use Rattle.piece_lines.proofs.Rests.{rests}
@@ -196,7 +196,7 @@ module _ {M : Type 1} (𝓤 : URA M) (H : Heap 𝓤) (A : Atoms 𝓤) (W : Given
   abbrev Has : State → List (Item 𝓤) → List (Item 𝓤)
   Has i Γ = ‵ (flft κ₀ q₀) ∷ ‵ (flft κ₁ q₁) ∷ ‵ (flft κ₂ q₂) ∷ ‵ (flft κ₃ q₃) ∷ ‵ (flft κ₄ q₄) ∷ ‵ (flft κ₅ q₅) ∷ ‵ (flft κ₆ q₆) ∷ ‵ Own-piece ∷ ‵ (Own-near (i .near′)) ∷ ‵ (Own-far (i .far′)) ∷ ‵ (Own-slots (i .slots′)) ∷ ‵ (Own-daily (i .daily′)) ∷ ‵ (Own-readings (i .readings′)) ∷ ‵ Own-curve ∷ Γ
 
-  exits : (i : State) → i .state .whole ≡ false → ent 𝓤 (⋆ 𝓤 H A (Has i [])) (Post (LL.val U.the-type U′.the-laws (i .state)))
+  exits : (i : State) → hasLine (i .state) ≡ false → ent 𝓤 (⋆ 𝓤 H A (Has i [])) (Post (LL.val U.the-type U′.the-laws (i .state)))
   exits i e =
       qed W (Has i []) ∵
       suffices ! _ (ends-at 𝓤 H A f.ended stayed (f.clauses 𝓤 H A mem run) W (((κ₀, (κ₁, (κ₂, (κ₃, (κ₄, (κ₅, (κ₆, tt))))))), (q₀, (q₁, (q₂, (q₃, (q₄, (q₅, (q₆, tt))))))), tt, a, at), tt) _ (i .state) (tt, (tt, (i .near′, (i .far′, (i .slots′, (i .daily′, (i .readings′, (tt, tt)))))))) (tt, (tt, (i .l-near, (i .l-far, (i .l-slots, (i .l-daily, (i .l-readings, (tt, tt))))))))) $ says ! (going-over opened (piece .now) (world (near .now) (far .now) (slots .now) (daily .now) (seen (readings .now)) (curve .now)) (i .state) (world (i .near′) (i .far′) (i .slots′) (i .daily′) (seen (i .readings′)) (curve .now)) (i .going) e) $
@@ -230,13 +230,13 @@ module _ {M : Type 1} (𝓤 : URA M) (H : Heap 𝓤) (A : Atoms 𝓤) (W : Given
 
   -- what is left of the piece falls
   abbrev Nearer : State → State → Type 0
-  Nearer j i = length (piece .now) - j .state .from < length (piece .now) - i .state .from
+  Nearer j i = length (piece .now) - j .state .next .from < length (piece .now) - i .state .next .from
 
   Nearer-wf : WellFounded Nearer
-  Nearer-wf = InvImage·wf (λ (i : State). length (piece .now) - i .state .from) (Nat·lt-wfRel .wf)
+  Nearer-wf = InvImage·wf (λ (i : State). length (piece .now) - i .state .next .from) (Nat·lt-wfRel .wf)
 
   -- the state after a call
-  abbrev then : (i : State) (r : Turn) (w : Val) (near″ : List ℕ) (far″ : List ℕ) (slots″ : List ℕ) (daily″ : List ℕ) (readings″ : List Reading) → Is U.the-row r (w ∷ []) → i .state .whole ≡ true → Gives r (i .state) (piece .now) (world (i .near′) (i .far′) (i .slots′) (i .daily′) (seen (i .readings′)) (curve .now)) (world near″ far″ slots″ daily″ (seen readings″) (curve .now)) → length near″ ≡ length (i .near′) → length far″ ≡ length (i .far′) → length slots″ ≡ length (i .slots′) → length daily″ ≡ length (i .daily′) → length readings″ ≡ length (i .readings′) → State
+  abbrev then : (i : State) (r : Turn) (w : Val) (near″ : List ℕ) (far″ : List ℕ) (slots″ : List ℕ) (daily″ : List ℕ) (readings″ : List Reading) → Is U.the-row r (w ∷ []) → hasLine (i .state) ≡ true → Gives r (i .state) (piece .now) (world (i .near′) (i .far′) (i .slots′) (i .daily′) (seen (i .readings′)) (curve .now)) (world near″ far″ slots″ daily″ (seen readings″) (curve .now)) → length near″ ≡ length (i .near′) → length far″ ≡ length (i .far′) → length slots″ ≡ length (i .slots′) → length daily″ ≡ length (i .daily′) → length readings″ ≡ length (i .readings′) → State
   then i r w near″ far″ slots″ daily″ readings″ is e said l-near l-far l-slots l-daily l-readings = record {
     state = r;
     near′ = near″;
@@ -282,38 +282,38 @@ module _ {M : Type 1} (𝓤 : URA M) (H : Heap 𝓤) (A : Atoms 𝓤) (W : Given
     unfoldable Locals : State → List (Item 𝓤)
     Locals i = ‵ (froom tyU l₀ 0) ∷ ‵ (fdies tyU l₀) ∷ ‵ (fat fullShare tyO l₁ 0 (LL.val O.the-type O′.the-laws opened)) ∷ ‵ (fdies tyO l₁) ∷ ‵ (fat fullShare (sliceTy (tyRef (named 0) imm (tyInt w8))) l₂ 0 v-piece) ∷ ‵ (fdies (sliceTy (tyRef (named 0) imm (tyInt w8))) l₂) ∷ ‵ (fat fullShare (sliceTy (tyRef (named 1) mut (tyInt w32))) l₃ 0 v-near) ∷ ‵ (fdies (sliceTy (tyRef (named 1) mut (tyInt w32))) l₃) ∷ ‵ (fat fullShare (sliceTy (tyRef (named 2) mut (tyInt w32))) l₄ 0 v-far) ∷ ‵ (fdies (sliceTy (tyRef (named 2) mut (tyInt w32))) l₄) ∷ ‵ (fat fullShare (sliceTy (tyRef (named 3) mut (tyInt w16))) l₅ 0 v-slots) ∷ ‵ (fdies (sliceTy (tyRef (named 3) mut (tyInt w16))) l₅) ∷ ‵ (fat fullShare (sliceTy (tyRef (named 4) mut (tyInt w32))) l₆ 0 v-daily) ∷ ‵ (fdies (sliceTy (tyRef (named 4) mut (tyInt w32))) l₆) ∷ ‵ (fat fullShare (sliceTy (tyRef (named 5) mut (pointee (R.the-row .written)))) l₇ 0 v-readings) ∷ ‵ (fdies (sliceTy (tyRef (named 5) mut (pointee (R.the-row .written)))) l₇) ∷ ‵ (fat fullShare (sliceTy (tyRef (named 6) imm (tyInt w64))) l₈ 0 v-curve) ∷ ‵ (fdies (sliceTy (tyRef (named 6) imm (tyInt w64))) l₈) ∷ ‵ (fat fullShare tyU l₉ 0 (LL.val U.the-type U′.the-laws (i .state))) ∷ ‵ (fdies tyU l₉) ∷ ‵ (fat fullShare tyBool l₁₀ 0 (vbool true)) ∷ ‵ (fdies tyBool l₁₀) ∷ ‵ (fat fullShare (tyRef erased mut (tyInt w32)) l₁₁ 0 (vptr (near .ptr .0) (near .ptr .1))) ∷ ‵ (fdies (tyRef erased mut (tyInt w32)) l₁₁) ∷ ‵ (fat fullShare (sliceTy (tyRef erased mut (tyInt w32))) l₁₂ 0 v-near) ∷ ‵ (fdies (sliceTy (tyRef erased mut (tyInt w32))) l₁₂) ∷ ‵ (fat fullShare (tyRef erased mut (tyInt w32)) l₁₃ 0 (vptr (far .ptr .0) (far .ptr .1))) ∷ ‵ (fdies (tyRef erased mut (tyInt w32)) l₁₃) ∷ ‵ (fat fullShare (sliceTy (tyRef erased mut (tyInt w32))) l₁₄ 0 v-far) ∷ ‵ (fdies (sliceTy (tyRef erased mut (tyInt w32))) l₁₄) ∷ ‵ (fat fullShare (tyRef erased mut (tyInt w16)) l₁₅ 0 (vptr (slots .ptr .0) (slots .ptr .1))) ∷ ‵ (fdies (tyRef erased mut (tyInt w16)) l₁₅) ∷ ‵ (fat fullShare (sliceTy (tyRef erased mut (tyInt w16))) l₁₆ 0 v-slots) ∷ ‵ (fdies (sliceTy (tyRef erased mut (tyInt w16))) l₁₆) ∷ ‵ (fat fullShare (tyRef erased mut (tyInt w32)) l₁₇ 0 (vptr (daily .ptr .0) (daily .ptr .1))) ∷ ‵ (fdies (tyRef erased mut (tyInt w32)) l₁₇) ∷ ‵ (fat fullShare (sliceTy (tyRef erased mut (tyInt w32))) l₁₈ 0 v-daily) ∷ ‵ (fdies (sliceTy (tyRef erased mut (tyInt w32))) l₁₈) ∷ ‵ (fat fullShare (tyRef erased mut (pointee (R.the-row .written))) l₁₉ 0 (vptr (readings .ptr .0) (readings .ptr .1))) ∷ ‵ (fdies (tyRef erased mut (pointee (R.the-row .written))) l₁₉) ∷ ‵ (fat fullShare (sliceTy (tyRef erased mut (pointee (R.the-row .written)))) l₂₀ 0 v-readings) ∷ ‵ (fdies (sliceTy (tyRef erased mut (pointee (R.the-row .written)))) l₂₀) ∷ []
 
-    lands : (i : State) (e : i .state .whole ≡ true) (ν₁ : ℕ) (δ₁ : GName) (ν₂ : ℕ) (δ₂ : GName) (ν₃ : ℕ) (δ₃ : GName) (ν₄ : ℕ) (δ₄ : GName) (ν₅ : ℕ) (δ₅ : GName) (r : Turn) (w : Val) (near″ : List ℕ) (far″ : List ℕ) (slots″ : List ℕ) (daily″ : List ℕ) (readings″ : List Reading) (said : Gives r (i .state) (piece .now) (world (i .near′) (i .far′) (i .slots′) (i .daily′) (seen (i .readings′)) (curve .now)) (world near″ far″ slots″ daily″ (seen readings″) (curve .now))) (l-near : length near″ ≡ length (i .near′)) (l-far : length far″ ≡ length (i .far′)) (l-slots : length slots″ ≡ length (i .slots′)) (l-daily : length daily″ ≡ length (i .daily′)) (l-readings : length readings″ ≡ length (i .readings′)) → Sq W (‵ (Own-readings readings″) ∷ ‵ (flft κ₅ q₅) ∷ ‵ (Own-daily daily″) ∷ ‵ (flft κ₄ q₄) ∷ ‵ (Own-slots slots″) ∷ ‵ (flft κ₃ q₃) ∷ ‵ (Own-far far″) ∷ ‵ (flft κ₂ q₂) ∷ ‵ (Own-near near″) ∷ ‵ (flft κ₁ q₁) ∷ ‵ (flft κ₆ q₆) ∷ ‵ (flft κ₀ q₀) ∷ ‵ (U.the-row .own r (w ∷ [])) ∷ ‵ Own-curve ∷ ‵ Own-piece ∷ Locals i) (settles En (place 9 []) w (anyQ (Turned i)))
+    lands : (i : State) (e : hasLine (i .state) ≡ true) (ν₁ : ℕ) (δ₁ : GName) (ν₂ : ℕ) (δ₂ : GName) (ν₃ : ℕ) (δ₃ : GName) (ν₄ : ℕ) (δ₄ : GName) (ν₅ : ℕ) (δ₅ : GName) (r : Turn) (w : Val) (near″ : List ℕ) (far″ : List ℕ) (slots″ : List ℕ) (daily″ : List ℕ) (readings″ : List Reading) (said : Gives r (i .state) (piece .now) (world (i .near′) (i .far′) (i .slots′) (i .daily′) (seen (i .readings′)) (curve .now)) (world near″ far″ slots″ daily″ (seen readings″) (curve .now))) (l-near : length near″ ≡ length (i .near′)) (l-far : length far″ ≡ length (i .far′)) (l-slots : length slots″ ≡ length (i .slots′)) (l-daily : length daily″ ≡ length (i .daily′)) (l-readings : length readings″ ≡ length (i .readings′)) → Sq W (‵ (Own-readings readings″) ∷ ‵ (flft κ₅ q₅) ∷ ‵ (Own-daily daily″) ∷ ‵ (flft κ₄ q₄) ∷ ‵ (Own-slots slots″) ∷ ‵ (flft κ₃ q₃) ∷ ‵ (Own-far far″) ∷ ‵ (flft κ₂ q₂) ∷ ‵ (Own-near near″) ∷ ‵ (flft κ₁ q₁) ∷ ‵ (flft κ₆ q₆) ∷ ‵ (flft κ₀ q₀) ∷ ‵ (U.the-row .own r (w ∷ [])) ∷ ‵ Own-curve ∷ ‵ Own-piece ∷ Locals i) (settles En (place 9 []) w (anyQ (Turned i)))
     unfolding Locals afterTurn
     lands i e ν₁ δ₁ ν₂ δ₂ ν₃ δ₃ ν₄ δ₄ ν₅ δ₅ r w near″ far″ slots″ daily″ readings″ said l-near l-far l-slots l-daily l-readings =
         move ! (12 ∷ []) $ peeks ! U.the-row (Is U.the-row) (shows 𝓤 H A U.the-row) r (w ∷ []) (λ is. land-last ! (from ! (stop !)) (store ! 33 refl (LL.lawful U.the-type U′.the-laws 𝓤 H A W .typed r _ is .0)) $ drop ! $ rewrite ! 32 (λ (u : Val). ‵ (fat fullShare tyU l₉ 0 u)) (ap only (LL.tells U.the-type U′.the-laws r _ is)) refl $
         forget ! 34 refl $ forget ! 36 refl $ forget ! 38 refl $ forget ! 40 refl $ forget ! 42 refl $ forget ! 44 refl $ forget ! 46 refl $ forget ! 48 refl $ forget ! 50 refl $ forget ! 52 refl $ forget ! 54 refl $ keep ! (11 ∷ 9 ∷ 7 ∷ 5 ∷ 3 ∷ 1 ∷ 10 ∷ 13 ∷ 8 ∷ 6 ∷ 4 ∷ 2 ∷ 0 ∷ 12 ∷ 14 ∷ 15 ∷ 16 ∷ 17 ∷ 18 ∷ 19 ∷ 20 ∷ 21 ∷ 22 ∷ 23 ∷ 24 ∷ 25 ∷ 26 ∷ 27 ∷ 28 ∷ 29 ∷ 30 ∷ 31 ∷ 32 ∷ 33 ∷ 34 ∷ 35 ∷ 36 ∷ 37 ∷ 38 ∷ 39 ∷ 40 ∷ 41 ∷ 42 ∷ 43 ∷ 44 ∷ 45 ∷ 46 ∷ 47 ∷ 48 ∷ 49 ∷ 50 ∷ 51 ∷ 52 ∷ 53 ∷ 54 ∷ 55 ∷ []) $ again ! Nearer At i (then i r w near″ far″ slots″ daily″ readings″ is e said l-near l-far l-slots l-daily l-readings) (going-nearer opened (piece .now) (world (near .now) (far .now) (slots .now) (daily .now) (seen (readings .now)) (curve .now)) (i .state) (world (i .near′) (i .far′) (i .slots′) (i .daily′) (seen (i .readings′)) (curve .now)) (i .going) e r (world near″ far″ slots″ daily″ (seen readings″) (curve .now)) said))
 
-    returns-readings : (i : State) (e : i .state .whole ≡ true) (ν₁ : ℕ) (δ₁ : GName) (ν₂ : ℕ) (δ₂ : GName) (ν₃ : ℕ) (δ₃ : GName) (ν₄ : ℕ) (δ₄ : GName) (ν₅ : ℕ) (δ₅ : GName) (r : Turn) (w : Val) (near″ : List ℕ) (far″ : List ℕ) (slots″ : List ℕ) (daily″ : List ℕ) (readings″ : List Reading) (said : Gives r (i .state) (piece .now) (world (i .near′) (i .far′) (i .slots′) (i .daily′) (seen (i .readings′)) (curve .now)) (world near″ far″ slots″ daily″ (seen readings″) (curve .now))) (l-near : length near″ ≡ length (i .near′)) (l-far : length far″ ≡ length (i .far′)) (l-slots : length slots″ ≡ length (i .slots′)) (l-daily : length daily″ ≡ length (i .daily′)) (l-readings : length readings″ ≡ length (i .readings′)) → Sq W (‵ (Own-daily daily″) ∷ ‵ (flft κ₄ q₄) ∷ ‵ (Own-slots slots″) ∷ ‵ (flft κ₃ q₃) ∷ ‵ (Own-far far″) ∷ ‵ (flft κ₂ q₂) ∷ ‵ (Own-near near″) ∷ ‵ (flft κ₁ q₁) ∷ ‵ (flft κ₆ q₆) ∷ ‵ (flft (ν₅ ∷ []) fullShare) ∷ ‵ (flft κ₀ q₀) ∷ ‵ (U.the-row .own r (w ∷ [])) ∷ ‵ (finally R.the-row δ₅ readings″) ∷ ‵ (Lent R.the-row κ₅ (ν₅ ∷ []) q₅ readings δ₅ (i .readings′)) ∷ ‵ Own-curve ∷ ‵ Own-piece ∷ Locals i) (settles En (place 9 []) w (anyQ (Turned i)))
+    returns-readings : (i : State) (e : hasLine (i .state) ≡ true) (ν₁ : ℕ) (δ₁ : GName) (ν₂ : ℕ) (δ₂ : GName) (ν₃ : ℕ) (δ₃ : GName) (ν₄ : ℕ) (δ₄ : GName) (ν₅ : ℕ) (δ₅ : GName) (r : Turn) (w : Val) (near″ : List ℕ) (far″ : List ℕ) (slots″ : List ℕ) (daily″ : List ℕ) (readings″ : List Reading) (said : Gives r (i .state) (piece .now) (world (i .near′) (i .far′) (i .slots′) (i .daily′) (seen (i .readings′)) (curve .now)) (world near″ far″ slots″ daily″ (seen readings″) (curve .now))) (l-near : length near″ ≡ length (i .near′)) (l-far : length far″ ≡ length (i .far′)) (l-slots : length slots″ ≡ length (i .slots′)) (l-daily : length daily″ ≡ length (i .daily′)) (l-readings : length readings″ ≡ length (i .readings′)) → Sq W (‵ (Own-daily daily″) ∷ ‵ (flft κ₄ q₄) ∷ ‵ (Own-slots slots″) ∷ ‵ (flft κ₃ q₃) ∷ ‵ (Own-far far″) ∷ ‵ (flft κ₂ q₂) ∷ ‵ (Own-near near″) ∷ ‵ (flft κ₁ q₁) ∷ ‵ (flft κ₆ q₆) ∷ ‵ (flft (ν₅ ∷ []) fullShare) ∷ ‵ (flft κ₀ q₀) ∷ ‵ (U.the-row .own r (w ∷ [])) ∷ ‵ (finally R.the-row δ₅ readings″) ∷ ‵ (Lent R.the-row κ₅ (ν₅ ∷ []) q₅ readings δ₅ (i .readings′)) ∷ ‵ Own-curve ∷ ‵ Own-piece ∷ Locals i) (settles En (place 9 []) w (anyQ (Turned i)))
     returns-readings i e ν₁ δ₁ ν₂ δ₂ ν₃ δ₃ ν₄ δ₄ ν₅ δ₅ r w near″ far″ slots″ daily″ readings″ said l-near l-far l-slots l-daily l-readings =
         move ! (9 ∷ []) $ lft-end ! tt $ move ! (0 ∷ 13 ∷ 12 ∷ []) $ use3 W (later (‵ (Own-readings readings″) ⊛ ‵ (flft κ₅ q₅))) (returns R.the-row κ₅ (ν₅ ∷ []) q₅ readings 𝓤 H A W (named 5) (named 5) (i .readings′) (length (readings .now)) (i .l-readings) room-readings δ₅ readings″ l-readings) $ await ! tt $ split ! $
         lands i e ν₁ δ₁ ν₂ δ₂ ν₃ δ₃ ν₄ δ₄ ν₅ δ₅ r w near″ far″ slots″ daily″ readings″ said l-near l-far l-slots l-daily l-readings
 
-    returns-daily : (i : State) (e : i .state .whole ≡ true) (ν₁ : ℕ) (δ₁ : GName) (ν₂ : ℕ) (δ₂ : GName) (ν₃ : ℕ) (δ₃ : GName) (ν₄ : ℕ) (δ₄ : GName) (ν₅ : ℕ) (δ₅ : GName) (r : Turn) (w : Val) (near″ : List ℕ) (far″ : List ℕ) (slots″ : List ℕ) (daily″ : List ℕ) (readings″ : List Reading) (said : Gives r (i .state) (piece .now) (world (i .near′) (i .far′) (i .slots′) (i .daily′) (seen (i .readings′)) (curve .now)) (world near″ far″ slots″ daily″ (seen readings″) (curve .now))) (l-near : length near″ ≡ length (i .near′)) (l-far : length far″ ≡ length (i .far′)) (l-slots : length slots″ ≡ length (i .slots′)) (l-daily : length daily″ ≡ length (i .daily′)) (l-readings : length readings″ ≡ length (i .readings′)) → Sq W (‵ (Own-slots slots″) ∷ ‵ (flft κ₃ q₃) ∷ ‵ (Own-far far″) ∷ ‵ (flft κ₂ q₂) ∷ ‵ (Own-near near″) ∷ ‵ (flft κ₁ q₁) ∷ ‵ (flft κ₆ q₆) ∷ ‵ (flft (ν₅ ∷ []) fullShare) ∷ ‵ (flft (ν₄ ∷ []) fullShare) ∷ ‵ (flft κ₀ q₀) ∷ ‵ (U.the-row .own r (w ∷ [])) ∷ ‵ (finally R.the-row δ₅ readings″) ∷ ‵ (finally u32 δ₄ daily″) ∷ ‵ (Lent R.the-row κ₅ (ν₅ ∷ []) q₅ readings δ₅ (i .readings′)) ∷ ‵ (Lent u32 κ₄ (ν₄ ∷ []) q₄ daily δ₄ (i .daily′)) ∷ ‵ Own-curve ∷ ‵ Own-piece ∷ Locals i) (settles En (place 9 []) w (anyQ (Turned i)))
+    returns-daily : (i : State) (e : hasLine (i .state) ≡ true) (ν₁ : ℕ) (δ₁ : GName) (ν₂ : ℕ) (δ₂ : GName) (ν₃ : ℕ) (δ₃ : GName) (ν₄ : ℕ) (δ₄ : GName) (ν₅ : ℕ) (δ₅ : GName) (r : Turn) (w : Val) (near″ : List ℕ) (far″ : List ℕ) (slots″ : List ℕ) (daily″ : List ℕ) (readings″ : List Reading) (said : Gives r (i .state) (piece .now) (world (i .near′) (i .far′) (i .slots′) (i .daily′) (seen (i .readings′)) (curve .now)) (world near″ far″ slots″ daily″ (seen readings″) (curve .now))) (l-near : length near″ ≡ length (i .near′)) (l-far : length far″ ≡ length (i .far′)) (l-slots : length slots″ ≡ length (i .slots′)) (l-daily : length daily″ ≡ length (i .daily′)) (l-readings : length readings″ ≡ length (i .readings′)) → Sq W (‵ (Own-slots slots″) ∷ ‵ (flft κ₃ q₃) ∷ ‵ (Own-far far″) ∷ ‵ (flft κ₂ q₂) ∷ ‵ (Own-near near″) ∷ ‵ (flft κ₁ q₁) ∷ ‵ (flft κ₆ q₆) ∷ ‵ (flft (ν₅ ∷ []) fullShare) ∷ ‵ (flft (ν₄ ∷ []) fullShare) ∷ ‵ (flft κ₀ q₀) ∷ ‵ (U.the-row .own r (w ∷ [])) ∷ ‵ (finally R.the-row δ₅ readings″) ∷ ‵ (finally u32 δ₄ daily″) ∷ ‵ (Lent R.the-row κ₅ (ν₅ ∷ []) q₅ readings δ₅ (i .readings′)) ∷ ‵ (Lent u32 κ₄ (ν₄ ∷ []) q₄ daily δ₄ (i .daily′)) ∷ ‵ Own-curve ∷ ‵ Own-piece ∷ Locals i) (settles En (place 9 []) w (anyQ (Turned i)))
     returns-daily i e ν₁ δ₁ ν₂ δ₂ ν₃ δ₃ ν₄ δ₄ ν₅ δ₅ r w near″ far″ slots″ daily″ readings″ said l-near l-far l-slots l-daily l-readings =
         move ! (8 ∷ []) $ lft-end ! tt $ move ! (0 ∷ 14 ∷ 12 ∷ []) $ use3 W (later (‵ (Own-daily daily″) ⊛ ‵ (flft κ₄ q₄))) (returns u32 κ₄ (ν₄ ∷ []) q₄ daily 𝓤 H A W (named 4) (named 4) (i .daily′) (length (daily .now)) (i .l-daily) room-daily δ₄ daily″ l-daily) $ await ! tt $ split ! $
         returns-readings i e ν₁ δ₁ ν₂ δ₂ ν₃ δ₃ ν₄ δ₄ ν₅ δ₅ r w near″ far″ slots″ daily″ readings″ said l-near l-far l-slots l-daily l-readings
 
-    returns-slots : (i : State) (e : i .state .whole ≡ true) (ν₁ : ℕ) (δ₁ : GName) (ν₂ : ℕ) (δ₂ : GName) (ν₃ : ℕ) (δ₃ : GName) (ν₄ : ℕ) (δ₄ : GName) (ν₅ : ℕ) (δ₅ : GName) (r : Turn) (w : Val) (near″ : List ℕ) (far″ : List ℕ) (slots″ : List ℕ) (daily″ : List ℕ) (readings″ : List Reading) (said : Gives r (i .state) (piece .now) (world (i .near′) (i .far′) (i .slots′) (i .daily′) (seen (i .readings′)) (curve .now)) (world near″ far″ slots″ daily″ (seen readings″) (curve .now))) (l-near : length near″ ≡ length (i .near′)) (l-far : length far″ ≡ length (i .far′)) (l-slots : length slots″ ≡ length (i .slots′)) (l-daily : length daily″ ≡ length (i .daily′)) (l-readings : length readings″ ≡ length (i .readings′)) → Sq W (‵ (Own-far far″) ∷ ‵ (flft κ₂ q₂) ∷ ‵ (Own-near near″) ∷ ‵ (flft κ₁ q₁) ∷ ‵ (flft κ₆ q₆) ∷ ‵ (flft (ν₅ ∷ []) fullShare) ∷ ‵ (flft (ν₄ ∷ []) fullShare) ∷ ‵ (flft (ν₃ ∷ []) fullShare) ∷ ‵ (flft κ₀ q₀) ∷ ‵ (U.the-row .own r (w ∷ [])) ∷ ‵ (finally R.the-row δ₅ readings″) ∷ ‵ (finally u32 δ₄ daily″) ∷ ‵ (finally u16 δ₃ slots″) ∷ ‵ (Lent R.the-row κ₅ (ν₅ ∷ []) q₅ readings δ₅ (i .readings′)) ∷ ‵ (Lent u32 κ₄ (ν₄ ∷ []) q₄ daily δ₄ (i .daily′)) ∷ ‵ (Lent u16 κ₃ (ν₃ ∷ []) q₃ slots δ₃ (i .slots′)) ∷ ‵ Own-curve ∷ ‵ Own-piece ∷ Locals i) (settles En (place 9 []) w (anyQ (Turned i)))
+    returns-slots : (i : State) (e : hasLine (i .state) ≡ true) (ν₁ : ℕ) (δ₁ : GName) (ν₂ : ℕ) (δ₂ : GName) (ν₃ : ℕ) (δ₃ : GName) (ν₄ : ℕ) (δ₄ : GName) (ν₅ : ℕ) (δ₅ : GName) (r : Turn) (w : Val) (near″ : List ℕ) (far″ : List ℕ) (slots″ : List ℕ) (daily″ : List ℕ) (readings″ : List Reading) (said : Gives r (i .state) (piece .now) (world (i .near′) (i .far′) (i .slots′) (i .daily′) (seen (i .readings′)) (curve .now)) (world near″ far″ slots″ daily″ (seen readings″) (curve .now))) (l-near : length near″ ≡ length (i .near′)) (l-far : length far″ ≡ length (i .far′)) (l-slots : length slots″ ≡ length (i .slots′)) (l-daily : length daily″ ≡ length (i .daily′)) (l-readings : length readings″ ≡ length (i .readings′)) → Sq W (‵ (Own-far far″) ∷ ‵ (flft κ₂ q₂) ∷ ‵ (Own-near near″) ∷ ‵ (flft κ₁ q₁) ∷ ‵ (flft κ₆ q₆) ∷ ‵ (flft (ν₅ ∷ []) fullShare) ∷ ‵ (flft (ν₄ ∷ []) fullShare) ∷ ‵ (flft (ν₃ ∷ []) fullShare) ∷ ‵ (flft κ₀ q₀) ∷ ‵ (U.the-row .own r (w ∷ [])) ∷ ‵ (finally R.the-row δ₅ readings″) ∷ ‵ (finally u32 δ₄ daily″) ∷ ‵ (finally u16 δ₃ slots″) ∷ ‵ (Lent R.the-row κ₅ (ν₅ ∷ []) q₅ readings δ₅ (i .readings′)) ∷ ‵ (Lent u32 κ₄ (ν₄ ∷ []) q₄ daily δ₄ (i .daily′)) ∷ ‵ (Lent u16 κ₃ (ν₃ ∷ []) q₃ slots δ₃ (i .slots′)) ∷ ‵ Own-curve ∷ ‵ Own-piece ∷ Locals i) (settles En (place 9 []) w (anyQ (Turned i)))
     returns-slots i e ν₁ δ₁ ν₂ δ₂ ν₃ δ₃ ν₄ δ₄ ν₅ δ₅ r w near″ far″ slots″ daily″ readings″ said l-near l-far l-slots l-daily l-readings =
         move ! (7 ∷ []) $ lft-end ! tt $ move ! (0 ∷ 15 ∷ 12 ∷ []) $ use3 W (later (‵ (Own-slots slots″) ⊛ ‵ (flft κ₃ q₃))) (returns u16 κ₃ (ν₃ ∷ []) q₃ slots 𝓤 H A W (named 3) (named 3) (i .slots′) (length (slots .now)) (i .l-slots) room-slots δ₃ slots″ l-slots) $ await ! tt $ split ! $
         returns-daily i e ν₁ δ₁ ν₂ δ₂ ν₃ δ₃ ν₄ δ₄ ν₅ δ₅ r w near″ far″ slots″ daily″ readings″ said l-near l-far l-slots l-daily l-readings
 
-    returns-far : (i : State) (e : i .state .whole ≡ true) (ν₁ : ℕ) (δ₁ : GName) (ν₂ : ℕ) (δ₂ : GName) (ν₃ : ℕ) (δ₃ : GName) (ν₄ : ℕ) (δ₄ : GName) (ν₅ : ℕ) (δ₅ : GName) (r : Turn) (w : Val) (near″ : List ℕ) (far″ : List ℕ) (slots″ : List ℕ) (daily″ : List ℕ) (readings″ : List Reading) (said : Gives r (i .state) (piece .now) (world (i .near′) (i .far′) (i .slots′) (i .daily′) (seen (i .readings′)) (curve .now)) (world near″ far″ slots″ daily″ (seen readings″) (curve .now))) (l-near : length near″ ≡ length (i .near′)) (l-far : length far″ ≡ length (i .far′)) (l-slots : length slots″ ≡ length (i .slots′)) (l-daily : length daily″ ≡ length (i .daily′)) (l-readings : length readings″ ≡ length (i .readings′)) → Sq W (‵ (Own-near near″) ∷ ‵ (flft κ₁ q₁) ∷ ‵ (flft κ₆ q₆) ∷ ‵ (flft (ν₅ ∷ []) fullShare) ∷ ‵ (flft (ν₄ ∷ []) fullShare) ∷ ‵ (flft (ν₃ ∷ []) fullShare) ∷ ‵ (flft (ν₂ ∷ []) fullShare) ∷ ‵ (flft κ₀ q₀) ∷ ‵ (U.the-row .own r (w ∷ [])) ∷ ‵ (finally R.the-row δ₅ readings″) ∷ ‵ (finally u32 δ₄ daily″) ∷ ‵ (finally u16 δ₃ slots″) ∷ ‵ (finally u32 δ₂ far″) ∷ ‵ (Lent R.the-row κ₅ (ν₅ ∷ []) q₅ readings δ₅ (i .readings′)) ∷ ‵ (Lent u32 κ₄ (ν₄ ∷ []) q₄ daily δ₄ (i .daily′)) ∷ ‵ (Lent u16 κ₃ (ν₃ ∷ []) q₃ slots δ₃ (i .slots′)) ∷ ‵ (Lent u32 κ₂ (ν₂ ∷ []) q₂ far δ₂ (i .far′)) ∷ ‵ Own-curve ∷ ‵ Own-piece ∷ Locals i) (settles En (place 9 []) w (anyQ (Turned i)))
+    returns-far : (i : State) (e : hasLine (i .state) ≡ true) (ν₁ : ℕ) (δ₁ : GName) (ν₂ : ℕ) (δ₂ : GName) (ν₃ : ℕ) (δ₃ : GName) (ν₄ : ℕ) (δ₄ : GName) (ν₅ : ℕ) (δ₅ : GName) (r : Turn) (w : Val) (near″ : List ℕ) (far″ : List ℕ) (slots″ : List ℕ) (daily″ : List ℕ) (readings″ : List Reading) (said : Gives r (i .state) (piece .now) (world (i .near′) (i .far′) (i .slots′) (i .daily′) (seen (i .readings′)) (curve .now)) (world near″ far″ slots″ daily″ (seen readings″) (curve .now))) (l-near : length near″ ≡ length (i .near′)) (l-far : length far″ ≡ length (i .far′)) (l-slots : length slots″ ≡ length (i .slots′)) (l-daily : length daily″ ≡ length (i .daily′)) (l-readings : length readings″ ≡ length (i .readings′)) → Sq W (‵ (Own-near near″) ∷ ‵ (flft κ₁ q₁) ∷ ‵ (flft κ₆ q₆) ∷ ‵ (flft (ν₅ ∷ []) fullShare) ∷ ‵ (flft (ν₄ ∷ []) fullShare) ∷ ‵ (flft (ν₃ ∷ []) fullShare) ∷ ‵ (flft (ν₂ ∷ []) fullShare) ∷ ‵ (flft κ₀ q₀) ∷ ‵ (U.the-row .own r (w ∷ [])) ∷ ‵ (finally R.the-row δ₅ readings″) ∷ ‵ (finally u32 δ₄ daily″) ∷ ‵ (finally u16 δ₃ slots″) ∷ ‵ (finally u32 δ₂ far″) ∷ ‵ (Lent R.the-row κ₅ (ν₅ ∷ []) q₅ readings δ₅ (i .readings′)) ∷ ‵ (Lent u32 κ₄ (ν₄ ∷ []) q₄ daily δ₄ (i .daily′)) ∷ ‵ (Lent u16 κ₃ (ν₃ ∷ []) q₃ slots δ₃ (i .slots′)) ∷ ‵ (Lent u32 κ₂ (ν₂ ∷ []) q₂ far δ₂ (i .far′)) ∷ ‵ Own-curve ∷ ‵ Own-piece ∷ Locals i) (settles En (place 9 []) w (anyQ (Turned i)))
     returns-far i e ν₁ δ₁ ν₂ δ₂ ν₃ δ₃ ν₄ δ₄ ν₅ δ₅ r w near″ far″ slots″ daily″ readings″ said l-near l-far l-slots l-daily l-readings =
         move ! (6 ∷ []) $ lft-end ! tt $ move ! (0 ∷ 16 ∷ 12 ∷ []) $ use3 W (later (‵ (Own-far far″) ⊛ ‵ (flft κ₂ q₂))) (returns u32 κ₂ (ν₂ ∷ []) q₂ far 𝓤 H A W (named 2) (named 2) (i .far′) (length (far .now)) (i .l-far) room-far δ₂ far″ l-far) $ await ! tt $ split ! $
         returns-slots i e ν₁ δ₁ ν₂ δ₂ ν₃ δ₃ ν₄ δ₄ ν₅ δ₅ r w near″ far″ slots″ daily″ readings″ said l-near l-far l-slots l-daily l-readings
 
-    returns-near : (i : State) (e : i .state .whole ≡ true) (ν₁ : ℕ) (δ₁ : GName) (ν₂ : ℕ) (δ₂ : GName) (ν₃ : ℕ) (δ₃ : GName) (ν₄ : ℕ) (δ₄ : GName) (ν₅ : ℕ) (δ₅ : GName) (r : Turn) (w : Val) (near″ : List ℕ) (far″ : List ℕ) (slots″ : List ℕ) (daily″ : List ℕ) (readings″ : List Reading) (said : Gives r (i .state) (piece .now) (world (i .near′) (i .far′) (i .slots′) (i .daily′) (seen (i .readings′)) (curve .now)) (world near″ far″ slots″ daily″ (seen readings″) (curve .now))) (l-near : length near″ ≡ length (i .near′)) (l-far : length far″ ≡ length (i .far′)) (l-slots : length slots″ ≡ length (i .slots′)) (l-daily : length daily″ ≡ length (i .daily′)) (l-readings : length readings″ ≡ length (i .readings′)) → Sq W (‵ (flft κ₆ q₆) ∷ ‵ (flft (ν₅ ∷ []) fullShare) ∷ ‵ (flft (ν₄ ∷ []) fullShare) ∷ ‵ (flft (ν₃ ∷ []) fullShare) ∷ ‵ (flft (ν₂ ∷ []) fullShare) ∷ ‵ (flft (ν₁ ∷ []) fullShare) ∷ ‵ (flft κ₀ q₀) ∷ ‵ (U.the-row .own r (w ∷ [])) ∷ ‵ (finally R.the-row δ₅ readings″) ∷ ‵ (finally u32 δ₄ daily″) ∷ ‵ (finally u16 δ₃ slots″) ∷ ‵ (finally u32 δ₂ far″) ∷ ‵ (finally u32 δ₁ near″) ∷ ‵ (Lent R.the-row κ₅ (ν₅ ∷ []) q₅ readings δ₅ (i .readings′)) ∷ ‵ (Lent u32 κ₄ (ν₄ ∷ []) q₄ daily δ₄ (i .daily′)) ∷ ‵ (Lent u16 κ₃ (ν₃ ∷ []) q₃ slots δ₃ (i .slots′)) ∷ ‵ (Lent u32 κ₂ (ν₂ ∷ []) q₂ far δ₂ (i .far′)) ∷ ‵ (Lent u32 κ₁ (ν₁ ∷ []) q₁ near δ₁ (i .near′)) ∷ ‵ Own-curve ∷ ‵ Own-piece ∷ Locals i) (settles En (place 9 []) w (anyQ (Turned i)))
+    returns-near : (i : State) (e : hasLine (i .state) ≡ true) (ν₁ : ℕ) (δ₁ : GName) (ν₂ : ℕ) (δ₂ : GName) (ν₃ : ℕ) (δ₃ : GName) (ν₄ : ℕ) (δ₄ : GName) (ν₅ : ℕ) (δ₅ : GName) (r : Turn) (w : Val) (near″ : List ℕ) (far″ : List ℕ) (slots″ : List ℕ) (daily″ : List ℕ) (readings″ : List Reading) (said : Gives r (i .state) (piece .now) (world (i .near′) (i .far′) (i .slots′) (i .daily′) (seen (i .readings′)) (curve .now)) (world near″ far″ slots″ daily″ (seen readings″) (curve .now))) (l-near : length near″ ≡ length (i .near′)) (l-far : length far″ ≡ length (i .far′)) (l-slots : length slots″ ≡ length (i .slots′)) (l-daily : length daily″ ≡ length (i .daily′)) (l-readings : length readings″ ≡ length (i .readings′)) → Sq W (‵ (flft κ₆ q₆) ∷ ‵ (flft (ν₅ ∷ []) fullShare) ∷ ‵ (flft (ν₄ ∷ []) fullShare) ∷ ‵ (flft (ν₃ ∷ []) fullShare) ∷ ‵ (flft (ν₂ ∷ []) fullShare) ∷ ‵ (flft (ν₁ ∷ []) fullShare) ∷ ‵ (flft κ₀ q₀) ∷ ‵ (U.the-row .own r (w ∷ [])) ∷ ‵ (finally R.the-row δ₅ readings″) ∷ ‵ (finally u32 δ₄ daily″) ∷ ‵ (finally u16 δ₃ slots″) ∷ ‵ (finally u32 δ₂ far″) ∷ ‵ (finally u32 δ₁ near″) ∷ ‵ (Lent R.the-row κ₅ (ν₅ ∷ []) q₅ readings δ₅ (i .readings′)) ∷ ‵ (Lent u32 κ₄ (ν₄ ∷ []) q₄ daily δ₄ (i .daily′)) ∷ ‵ (Lent u16 κ₃ (ν₃ ∷ []) q₃ slots δ₃ (i .slots′)) ∷ ‵ (Lent u32 κ₂ (ν₂ ∷ []) q₂ far δ₂ (i .far′)) ∷ ‵ (Lent u32 κ₁ (ν₁ ∷ []) q₁ near δ₁ (i .near′)) ∷ ‵ Own-curve ∷ ‵ Own-piece ∷ Locals i) (settles En (place 9 []) w (anyQ (Turned i)))
     returns-near i e ν₁ δ₁ ν₂ δ₂ ν₃ δ₃ ν₄ δ₄ ν₅ δ₅ r w near″ far″ slots″ daily″ readings″ said l-near l-far l-slots l-daily l-readings =
         move ! (5 ∷ []) $ lft-end ! tt $ move ! (0 ∷ 17 ∷ 12 ∷ []) $ use3 W (later (‵ (Own-near near″) ⊛ ‵ (flft κ₁ q₁))) (returns u32 κ₁ (ν₁ ∷ []) q₁ near 𝓤 H A W (named 1) (named 1) (i .near′) (length (near .now)) (i .l-near) room-near δ₁ near″ l-near) $ await ! tt $ split ! $
         returns-far i e ν₁ δ₁ ν₂ δ₂ ν₃ δ₃ ν₄ δ₄ ν₅ δ₅ r w near″ far″ slots″ daily″ readings″ said l-near l-far l-slots l-daily l-readings
 
-    calls : (i : State) (e : i .state .whole ≡ true) (ν₁ : ℕ) (δ₁ : GName) (ν₂ : ℕ) (δ₂ : GName) (ν₃ : ℕ) (δ₃ : GName) (ν₄ : ℕ) (δ₄ : GName) (ν₅ : ℕ) (δ₅ : GName) → Sq W (‵ (MutSlice (named 5) (ν₅ ∷ []) R.the-row .own (at-readings δ₅ (i .readings′)) (v-readings ∷ [])) ∷ ‵ (Lent R.the-row κ₅ (ν₅ ∷ []) q₅ readings δ₅ (i .readings′)) ∷ ‵ (flft (ν₅ ∷ []) fullShare) ∷ ‵ (MutSlice (named 4) (ν₄ ∷ []) u32 .own (at-daily δ₄ (i .daily′)) (v-daily ∷ [])) ∷ ‵ (Lent u32 κ₄ (ν₄ ∷ []) q₄ daily δ₄ (i .daily′)) ∷ ‵ (flft (ν₄ ∷ []) fullShare) ∷ ‵ (MutSlice (named 3) (ν₃ ∷ []) u16 .own (at-slots δ₃ (i .slots′)) (v-slots ∷ [])) ∷ ‵ (Lent u16 κ₃ (ν₃ ∷ []) q₃ slots δ₃ (i .slots′)) ∷ ‵ (flft (ν₃ ∷ []) fullShare) ∷ ‵ (MutSlice (named 2) (ν₂ ∷ []) u32 .own (at-far δ₂ (i .far′)) (v-far ∷ [])) ∷ ‵ (Lent u32 κ₂ (ν₂ ∷ []) q₂ far δ₂ (i .far′)) ∷ ‵ (flft (ν₂ ∷ []) fullShare) ∷ ‵ (MutSlice (named 1) (ν₁ ∷ []) u32 .own (at-near δ₁ (i .near′)) (v-near ∷ [])) ∷ ‵ (Lent u32 κ₁ (ν₁ ∷ []) q₁ near δ₁ (i .near′)) ∷ ‵ (flft (ν₁ ∷ []) fullShare) ∷ ‵ Own-curve ∷ ‵ Own-curve ∷ ‵ Own-piece ∷ ‵ Own-piece ∷ ‵ (flft κ₀ q₀) ∷ ‵ (flft κ₆ q₆) ∷ Locals i) (runs C Λ En last-call (anyQ (Turned i)))
+    calls : (i : State) (e : hasLine (i .state) ≡ true) (ν₁ : ℕ) (δ₁ : GName) (ν₂ : ℕ) (δ₂ : GName) (ν₃ : ℕ) (δ₃ : GName) (ν₄ : ℕ) (δ₄ : GName) (ν₅ : ℕ) (δ₅ : GName) → Sq W (‵ (MutSlice (named 5) (ν₅ ∷ []) R.the-row .own (at-readings δ₅ (i .readings′)) (v-readings ∷ [])) ∷ ‵ (Lent R.the-row κ₅ (ν₅ ∷ []) q₅ readings δ₅ (i .readings′)) ∷ ‵ (flft (ν₅ ∷ []) fullShare) ∷ ‵ (MutSlice (named 4) (ν₄ ∷ []) u32 .own (at-daily δ₄ (i .daily′)) (v-daily ∷ [])) ∷ ‵ (Lent u32 κ₄ (ν₄ ∷ []) q₄ daily δ₄ (i .daily′)) ∷ ‵ (flft (ν₄ ∷ []) fullShare) ∷ ‵ (MutSlice (named 3) (ν₃ ∷ []) u16 .own (at-slots δ₃ (i .slots′)) (v-slots ∷ [])) ∷ ‵ (Lent u16 κ₃ (ν₃ ∷ []) q₃ slots δ₃ (i .slots′)) ∷ ‵ (flft (ν₃ ∷ []) fullShare) ∷ ‵ (MutSlice (named 2) (ν₂ ∷ []) u32 .own (at-far δ₂ (i .far′)) (v-far ∷ [])) ∷ ‵ (Lent u32 κ₂ (ν₂ ∷ []) q₂ far δ₂ (i .far′)) ∷ ‵ (flft (ν₂ ∷ []) fullShare) ∷ ‵ (MutSlice (named 1) (ν₁ ∷ []) u32 .own (at-near δ₁ (i .near′)) (v-near ∷ [])) ∷ ‵ (Lent u32 κ₁ (ν₁ ∷ []) q₁ near δ₁ (i .near′)) ∷ ‵ (flft (ν₁ ∷ []) fullShare) ∷ ‵ Own-curve ∷ ‵ Own-curve ∷ ‵ Own-piece ∷ ‵ Own-piece ∷ ‵ (flft κ₀ q₀) ∷ ‵ (flft κ₆ q₆) ∷ Locals i) (runs C Λ En last-call (anyQ (Turned i)))
     unfolding Locals
     calls i e ν₁ δ₁ ν₂ δ₂ ν₃ δ₃ ν₄ δ₄ ν₅ δ₅ =
         move ! (19 ∷ 14 ∷ 11 ∷ 8 ∷ 5 ∷ 2 ∷ 20 ∷ 18 ∷ 12 ∷ 9 ∷ 6 ∷ 3 ∷ 0 ∷ 16 ∷ []) $ group ! 14 $ use1 W (raw (Give 𝓤 H A mem run .pre (to-give i ν₁ ν₂ ν₃ ν₄ ν₅ δ₁ δ₂ δ₃ δ₄ δ₅))) (goes-give i ν₁ ν₂ ν₃ ν₄ ν₅ δ₁ δ₂ δ₃ δ₄ δ₅) $
@@ -325,38 +325,38 @@ module _ {M : Type 1} (𝓤 : URA M) (H : Heap 𝓤) (A : Atoms 𝓤) (W : Given
         drop ! $ move ! (5 ∷ []) $ split ! $ split ! $ move ! (1 ∷ []) $ split ! $ move ! (1 ∷ []) $ split ! $ move ! (1 ∷ []) $ split ! $ move ! (1 ∷ []) $ split ! $ move ! (1 ∷ []) $ split ! $ move ! (1 ∷ []) $ split ! $ move ! (1 ∷ []) $ drop ! $
         returns-near i e ν₁ δ₁ ν₂ δ₂ ν₃ δ₃ ν₄ δ₄ ν₅ δ₅ r w (ms .1 .1 .0) (ms .1 .1 .1 .0) (ms .1 .1 .1 .1 .0) (ms .1 .1 .1 .1 .1 .0) (ms .1 .1 .1 .1 .1 .1 .0) said l-near l-far l-slots l-daily l-readings)))))))))
 
-    lends-readings : (i : State) (e : i .state .whole ≡ true) (ν₁ : ℕ) (δ₁ : GName) (ν₂ : ℕ) (δ₂ : GName) (ν₃ : ℕ) (δ₃ : GName) (ν₄ : ℕ) (δ₄ : GName) → Sq W (‵ (MutSlice (named 4) (ν₄ ∷ []) u32 .own (at-daily δ₄ (i .daily′)) (v-daily ∷ [])) ∷ ‵ (Lent u32 κ₄ (ν₄ ∷ []) q₄ daily δ₄ (i .daily′)) ∷ ‵ (flft (ν₄ ∷ []) fullShare) ∷ ‵ (MutSlice (named 3) (ν₃ ∷ []) u16 .own (at-slots δ₃ (i .slots′)) (v-slots ∷ [])) ∷ ‵ (Lent u16 κ₃ (ν₃ ∷ []) q₃ slots δ₃ (i .slots′)) ∷ ‵ (flft (ν₃ ∷ []) fullShare) ∷ ‵ (MutSlice (named 2) (ν₂ ∷ []) u32 .own (at-far δ₂ (i .far′)) (v-far ∷ [])) ∷ ‵ (Lent u32 κ₂ (ν₂ ∷ []) q₂ far δ₂ (i .far′)) ∷ ‵ (flft (ν₂ ∷ []) fullShare) ∷ ‵ (MutSlice (named 1) (ν₁ ∷ []) u32 .own (at-near δ₁ (i .near′)) (v-near ∷ [])) ∷ ‵ (Lent u32 κ₁ (ν₁ ∷ []) q₁ near δ₁ (i .near′)) ∷ ‵ (flft (ν₁ ∷ []) fullShare) ∷ ‵ Own-curve ∷ ‵ Own-curve ∷ ‵ Own-piece ∷ ‵ Own-piece ∷ ‵ (flft κ₀ q₀) ∷ ‵ (flft κ₅ q₅) ∷ ‵ (flft κ₆ q₆) ∷ ‵ (Own-readings (i .readings′)) ∷ Locals i) (runs C Λ En last-call (anyQ (Turned i)))
+    lends-readings : (i : State) (e : hasLine (i .state) ≡ true) (ν₁ : ℕ) (δ₁ : GName) (ν₂ : ℕ) (δ₂ : GName) (ν₃ : ℕ) (δ₃ : GName) (ν₄ : ℕ) (δ₄ : GName) → Sq W (‵ (MutSlice (named 4) (ν₄ ∷ []) u32 .own (at-daily δ₄ (i .daily′)) (v-daily ∷ [])) ∷ ‵ (Lent u32 κ₄ (ν₄ ∷ []) q₄ daily δ₄ (i .daily′)) ∷ ‵ (flft (ν₄ ∷ []) fullShare) ∷ ‵ (MutSlice (named 3) (ν₃ ∷ []) u16 .own (at-slots δ₃ (i .slots′)) (v-slots ∷ [])) ∷ ‵ (Lent u16 κ₃ (ν₃ ∷ []) q₃ slots δ₃ (i .slots′)) ∷ ‵ (flft (ν₃ ∷ []) fullShare) ∷ ‵ (MutSlice (named 2) (ν₂ ∷ []) u32 .own (at-far δ₂ (i .far′)) (v-far ∷ [])) ∷ ‵ (Lent u32 κ₂ (ν₂ ∷ []) q₂ far δ₂ (i .far′)) ∷ ‵ (flft (ν₂ ∷ []) fullShare) ∷ ‵ (MutSlice (named 1) (ν₁ ∷ []) u32 .own (at-near δ₁ (i .near′)) (v-near ∷ [])) ∷ ‵ (Lent u32 κ₁ (ν₁ ∷ []) q₁ near δ₁ (i .near′)) ∷ ‵ (flft (ν₁ ∷ []) fullShare) ∷ ‵ Own-curve ∷ ‵ Own-curve ∷ ‵ Own-piece ∷ ‵ Own-piece ∷ ‵ (flft κ₀ q₀) ∷ ‵ (flft κ₅ q₅) ∷ ‵ (flft κ₆ q₆) ∷ ‵ (Own-readings (i .readings′)) ∷ Locals i) (runs C Λ En last-call (anyQ (Turned i)))
     lends-readings i e ν₁ δ₁ ν₂ δ₂ ν₃ δ₃ ν₄ δ₄ =
         lft-new ! tt (λ ν₅. move ! (20 ∷ 18 ∷ []) $ use2 W (later (some (λ (δ₅ : GName). ‵ (MutSlice (named 5) (ν₅ ∷ []) R.the-row .own (at-readings δ₅ (i .readings′)) (v-readings ∷ [])) ⊛ ‵ (Lent R.the-row κ₅ (ν₅ ∷ []) q₅ readings δ₅ (i .readings′))))) (lends R.the-row κ₅ (ν₅ ∷ []) q₅ readings 𝓤 H A W (named 5) (named 5) (i .readings′) (length (readings .now)) (i .l-readings)) $ await ! tt $ pick ! (λ δ₅. split ! $
         calls i e ν₁ δ₁ ν₂ δ₂ ν₃ δ₃ ν₄ δ₄ ν₅ δ₅))
 
-    lends-daily : (i : State) (e : i .state .whole ≡ true) (ν₁ : ℕ) (δ₁ : GName) (ν₂ : ℕ) (δ₂ : GName) (ν₃ : ℕ) (δ₃ : GName) → Sq W (‵ (MutSlice (named 3) (ν₃ ∷ []) u16 .own (at-slots δ₃ (i .slots′)) (v-slots ∷ [])) ∷ ‵ (Lent u16 κ₃ (ν₃ ∷ []) q₃ slots δ₃ (i .slots′)) ∷ ‵ (flft (ν₃ ∷ []) fullShare) ∷ ‵ (MutSlice (named 2) (ν₂ ∷ []) u32 .own (at-far δ₂ (i .far′)) (v-far ∷ [])) ∷ ‵ (Lent u32 κ₂ (ν₂ ∷ []) q₂ far δ₂ (i .far′)) ∷ ‵ (flft (ν₂ ∷ []) fullShare) ∷ ‵ (MutSlice (named 1) (ν₁ ∷ []) u32 .own (at-near δ₁ (i .near′)) (v-near ∷ [])) ∷ ‵ (Lent u32 κ₁ (ν₁ ∷ []) q₁ near δ₁ (i .near′)) ∷ ‵ (flft (ν₁ ∷ []) fullShare) ∷ ‵ Own-curve ∷ ‵ Own-curve ∷ ‵ Own-piece ∷ ‵ Own-piece ∷ ‵ (flft κ₀ q₀) ∷ ‵ (flft κ₄ q₄) ∷ ‵ (flft κ₅ q₅) ∷ ‵ (flft κ₆ q₆) ∷ ‵ (Own-daily (i .daily′)) ∷ ‵ (Own-readings (i .readings′)) ∷ Locals i) (runs C Λ En last-call (anyQ (Turned i)))
+    lends-daily : (i : State) (e : hasLine (i .state) ≡ true) (ν₁ : ℕ) (δ₁ : GName) (ν₂ : ℕ) (δ₂ : GName) (ν₃ : ℕ) (δ₃ : GName) → Sq W (‵ (MutSlice (named 3) (ν₃ ∷ []) u16 .own (at-slots δ₃ (i .slots′)) (v-slots ∷ [])) ∷ ‵ (Lent u16 κ₃ (ν₃ ∷ []) q₃ slots δ₃ (i .slots′)) ∷ ‵ (flft (ν₃ ∷ []) fullShare) ∷ ‵ (MutSlice (named 2) (ν₂ ∷ []) u32 .own (at-far δ₂ (i .far′)) (v-far ∷ [])) ∷ ‵ (Lent u32 κ₂ (ν₂ ∷ []) q₂ far δ₂ (i .far′)) ∷ ‵ (flft (ν₂ ∷ []) fullShare) ∷ ‵ (MutSlice (named 1) (ν₁ ∷ []) u32 .own (at-near δ₁ (i .near′)) (v-near ∷ [])) ∷ ‵ (Lent u32 κ₁ (ν₁ ∷ []) q₁ near δ₁ (i .near′)) ∷ ‵ (flft (ν₁ ∷ []) fullShare) ∷ ‵ Own-curve ∷ ‵ Own-curve ∷ ‵ Own-piece ∷ ‵ Own-piece ∷ ‵ (flft κ₀ q₀) ∷ ‵ (flft κ₄ q₄) ∷ ‵ (flft κ₅ q₅) ∷ ‵ (flft κ₆ q₆) ∷ ‵ (Own-daily (i .daily′)) ∷ ‵ (Own-readings (i .readings′)) ∷ Locals i) (runs C Λ En last-call (anyQ (Turned i)))
     lends-daily i e ν₁ δ₁ ν₂ δ₂ ν₃ δ₃ =
         lft-new ! tt (λ ν₄. move ! (18 ∷ 15 ∷ []) $ use2 W (later (some (λ (δ₄ : GName). ‵ (MutSlice (named 4) (ν₄ ∷ []) u32 .own (at-daily δ₄ (i .daily′)) (v-daily ∷ [])) ⊛ ‵ (Lent u32 κ₄ (ν₄ ∷ []) q₄ daily δ₄ (i .daily′))))) (lends u32 κ₄ (ν₄ ∷ []) q₄ daily 𝓤 H A W (named 4) (named 4) (i .daily′) (length (daily .now)) (i .l-daily)) $ await ! tt $ pick ! (λ δ₄. split ! $
         lends-readings i e ν₁ δ₁ ν₂ δ₂ ν₃ δ₃ ν₄ δ₄))
 
-    lends-slots : (i : State) (e : i .state .whole ≡ true) (ν₁ : ℕ) (δ₁ : GName) (ν₂ : ℕ) (δ₂ : GName) → Sq W (‵ (MutSlice (named 2) (ν₂ ∷ []) u32 .own (at-far δ₂ (i .far′)) (v-far ∷ [])) ∷ ‵ (Lent u32 κ₂ (ν₂ ∷ []) q₂ far δ₂ (i .far′)) ∷ ‵ (flft (ν₂ ∷ []) fullShare) ∷ ‵ (MutSlice (named 1) (ν₁ ∷ []) u32 .own (at-near δ₁ (i .near′)) (v-near ∷ [])) ∷ ‵ (Lent u32 κ₁ (ν₁ ∷ []) q₁ near δ₁ (i .near′)) ∷ ‵ (flft (ν₁ ∷ []) fullShare) ∷ ‵ Own-curve ∷ ‵ Own-curve ∷ ‵ Own-piece ∷ ‵ Own-piece ∷ ‵ (flft κ₀ q₀) ∷ ‵ (flft κ₃ q₃) ∷ ‵ (flft κ₄ q₄) ∷ ‵ (flft κ₅ q₅) ∷ ‵ (flft κ₆ q₆) ∷ ‵ (Own-slots (i .slots′)) ∷ ‵ (Own-daily (i .daily′)) ∷ ‵ (Own-readings (i .readings′)) ∷ Locals i) (runs C Λ En last-call (anyQ (Turned i)))
+    lends-slots : (i : State) (e : hasLine (i .state) ≡ true) (ν₁ : ℕ) (δ₁ : GName) (ν₂ : ℕ) (δ₂ : GName) → Sq W (‵ (MutSlice (named 2) (ν₂ ∷ []) u32 .own (at-far δ₂ (i .far′)) (v-far ∷ [])) ∷ ‵ (Lent u32 κ₂ (ν₂ ∷ []) q₂ far δ₂ (i .far′)) ∷ ‵ (flft (ν₂ ∷ []) fullShare) ∷ ‵ (MutSlice (named 1) (ν₁ ∷ []) u32 .own (at-near δ₁ (i .near′)) (v-near ∷ [])) ∷ ‵ (Lent u32 κ₁ (ν₁ ∷ []) q₁ near δ₁ (i .near′)) ∷ ‵ (flft (ν₁ ∷ []) fullShare) ∷ ‵ Own-curve ∷ ‵ Own-curve ∷ ‵ Own-piece ∷ ‵ Own-piece ∷ ‵ (flft κ₀ q₀) ∷ ‵ (flft κ₃ q₃) ∷ ‵ (flft κ₄ q₄) ∷ ‵ (flft κ₅ q₅) ∷ ‵ (flft κ₆ q₆) ∷ ‵ (Own-slots (i .slots′)) ∷ ‵ (Own-daily (i .daily′)) ∷ ‵ (Own-readings (i .readings′)) ∷ Locals i) (runs C Λ En last-call (anyQ (Turned i)))
     lends-slots i e ν₁ δ₁ ν₂ δ₂ =
         lft-new ! tt (λ ν₃. move ! (16 ∷ 12 ∷ []) $ use2 W (later (some (λ (δ₃ : GName). ‵ (MutSlice (named 3) (ν₃ ∷ []) u16 .own (at-slots δ₃ (i .slots′)) (v-slots ∷ [])) ⊛ ‵ (Lent u16 κ₃ (ν₃ ∷ []) q₃ slots δ₃ (i .slots′))))) (lends u16 κ₃ (ν₃ ∷ []) q₃ slots 𝓤 H A W (named 3) (named 3) (i .slots′) (length (slots .now)) (i .l-slots)) $ await ! tt $ pick ! (λ δ₃. split ! $
         lends-daily i e ν₁ δ₁ ν₂ δ₂ ν₃ δ₃))
 
-    lends-far : (i : State) (e : i .state .whole ≡ true) (ν₁ : ℕ) (δ₁ : GName) → Sq W (‵ (MutSlice (named 1) (ν₁ ∷ []) u32 .own (at-near δ₁ (i .near′)) (v-near ∷ [])) ∷ ‵ (Lent u32 κ₁ (ν₁ ∷ []) q₁ near δ₁ (i .near′)) ∷ ‵ (flft (ν₁ ∷ []) fullShare) ∷ ‵ Own-curve ∷ ‵ Own-curve ∷ ‵ Own-piece ∷ ‵ Own-piece ∷ ‵ (flft κ₀ q₀) ∷ ‵ (flft κ₂ q₂) ∷ ‵ (flft κ₃ q₃) ∷ ‵ (flft κ₄ q₄) ∷ ‵ (flft κ₅ q₅) ∷ ‵ (flft κ₆ q₆) ∷ ‵ (Own-far (i .far′)) ∷ ‵ (Own-slots (i .slots′)) ∷ ‵ (Own-daily (i .daily′)) ∷ ‵ (Own-readings (i .readings′)) ∷ Locals i) (runs C Λ En last-call (anyQ (Turned i)))
+    lends-far : (i : State) (e : hasLine (i .state) ≡ true) (ν₁ : ℕ) (δ₁ : GName) → Sq W (‵ (MutSlice (named 1) (ν₁ ∷ []) u32 .own (at-near δ₁ (i .near′)) (v-near ∷ [])) ∷ ‵ (Lent u32 κ₁ (ν₁ ∷ []) q₁ near δ₁ (i .near′)) ∷ ‵ (flft (ν₁ ∷ []) fullShare) ∷ ‵ Own-curve ∷ ‵ Own-curve ∷ ‵ Own-piece ∷ ‵ Own-piece ∷ ‵ (flft κ₀ q₀) ∷ ‵ (flft κ₂ q₂) ∷ ‵ (flft κ₃ q₃) ∷ ‵ (flft κ₄ q₄) ∷ ‵ (flft κ₅ q₅) ∷ ‵ (flft κ₆ q₆) ∷ ‵ (Own-far (i .far′)) ∷ ‵ (Own-slots (i .slots′)) ∷ ‵ (Own-daily (i .daily′)) ∷ ‵ (Own-readings (i .readings′)) ∷ Locals i) (runs C Λ En last-call (anyQ (Turned i)))
     lends-far i e ν₁ δ₁ =
         lft-new ! tt (λ ν₂. move ! (14 ∷ 9 ∷ []) $ use2 W (later (some (λ (δ₂ : GName). ‵ (MutSlice (named 2) (ν₂ ∷ []) u32 .own (at-far δ₂ (i .far′)) (v-far ∷ [])) ⊛ ‵ (Lent u32 κ₂ (ν₂ ∷ []) q₂ far δ₂ (i .far′))))) (lends u32 κ₂ (ν₂ ∷ []) q₂ far 𝓤 H A W (named 2) (named 2) (i .far′) (length (far .now)) (i .l-far)) $ await ! tt $ pick ! (λ δ₂. split ! $
         lends-slots i e ν₁ δ₁ ν₂ δ₂))
 
-    lends-near : (i : State) (e : i .state .whole ≡ true) → Sq W (‵ Own-curve ∷ ‵ Own-curve ∷ ‵ Own-piece ∷ ‵ Own-piece ∷ ‵ (flft κ₀ q₀) ∷ ‵ (flft κ₁ q₁) ∷ ‵ (flft κ₂ q₂) ∷ ‵ (flft κ₃ q₃) ∷ ‵ (flft κ₄ q₄) ∷ ‵ (flft κ₅ q₅) ∷ ‵ (flft κ₆ q₆) ∷ ‵ (Own-near (i .near′)) ∷ ‵ (Own-far (i .far′)) ∷ ‵ (Own-slots (i .slots′)) ∷ ‵ (Own-daily (i .daily′)) ∷ ‵ (Own-readings (i .readings′)) ∷ Locals i) (runs C Λ En last-call (anyQ (Turned i)))
+    lends-near : (i : State) (e : hasLine (i .state) ≡ true) → Sq W (‵ Own-curve ∷ ‵ Own-curve ∷ ‵ Own-piece ∷ ‵ Own-piece ∷ ‵ (flft κ₀ q₀) ∷ ‵ (flft κ₁ q₁) ∷ ‵ (flft κ₂ q₂) ∷ ‵ (flft κ₃ q₃) ∷ ‵ (flft κ₄ q₄) ∷ ‵ (flft κ₅ q₅) ∷ ‵ (flft κ₆ q₆) ∷ ‵ (Own-near (i .near′)) ∷ ‵ (Own-far (i .far′)) ∷ ‵ (Own-slots (i .slots′)) ∷ ‵ (Own-daily (i .daily′)) ∷ ‵ (Own-readings (i .readings′)) ∷ Locals i) (runs C Λ En last-call (anyQ (Turned i)))
     lends-near i e =
         lft-new ! tt (λ ν₁. move ! (12 ∷ 6 ∷ []) $ use2 W (later (some (λ (δ₁ : GName). ‵ (MutSlice (named 1) (ν₁ ∷ []) u32 .own (at-near δ₁ (i .near′)) (v-near ∷ [])) ⊛ ‵ (Lent u32 κ₁ (ν₁ ∷ []) q₁ near δ₁ (i .near′))))) (lends u32 κ₁ (ν₁ ∷ []) q₁ near 𝓤 H A W (named 1) (named 1) (i .near′) (length (near .now)) (i .l-near)) $ await ! tt $ pick ! (λ δ₁. split ! $
         lends-far i e ν₁ δ₁))
 
-    copies : (i : State) (e : i .state .whole ≡ true) → Sq W (‵ (flft κ₀ q₀) ∷ ‵ (flft κ₁ q₁) ∷ ‵ (flft κ₂ q₂) ∷ ‵ (flft κ₃ q₃) ∷ ‵ (flft κ₄ q₄) ∷ ‵ (flft κ₅ q₅) ∷ ‵ (flft κ₆ q₆) ∷ ‵ Own-piece ∷ ‵ (Own-near (i .near′)) ∷ ‵ (Own-far (i .far′)) ∷ ‵ (Own-slots (i .slots′)) ∷ ‵ (Own-daily (i .daily′)) ∷ ‵ (Own-readings (i .readings′)) ∷ ‵ Own-curve ∷ Locals i) (runs C Λ En last-call (anyQ (Turned i)))
+    copies : (i : State) (e : hasLine (i .state) ≡ true) → Sq W (‵ (flft κ₀ q₀) ∷ ‵ (flft κ₁ q₁) ∷ ‵ (flft κ₂ q₂) ∷ ‵ (flft κ₃ q₃) ∷ ‵ (flft κ₄ q₄) ∷ ‵ (flft κ₅ q₅) ∷ ‵ (flft κ₆ q₆) ∷ ‵ Own-piece ∷ ‵ (Own-near (i .near′)) ∷ ‵ (Own-far (i .far′)) ∷ ‵ (Own-slots (i .slots′)) ∷ ‵ (Own-daily (i .daily′)) ∷ ‵ (Own-readings (i .readings′)) ∷ ‵ Own-curve ∷ Locals i) (runs C Λ En last-call (anyQ (Turned i)))
     copies i e =
         move ! (7 ∷ []) $ use1 W (‵ Own-piece ⊛ ‵ Own-piece) (shr-slice-copy 𝓤 H A W (named 0) κ₀ u8 .twice piece (v-piece ∷ [])) $ split ! $
         move ! (14 ∷ []) $ use1 W (‵ Own-curve ⊛ ‵ Own-curve) (shr-slice-copy 𝓤 H A W (named 6) κ₆ u64 .twice curve (v-curve ∷ [])) $ split ! $
         lends-near i e
 
-    more : (i : State) → i .state .whole ≡ true → Sq W (Tested i true) (runs C Λ En (rests 1 pieces.turn-1) (anyQ (Turned i)))
+    more : (i : State) → hasLine (i .state) ≡ true → Sq W (Tested i true) (runs C Λ En (rests 1 pieces.turn-1) (anyQ (Turned i)))
     unfolding Locals
     more i e =
         stays ! (load ! (from ! (stop !)) (look ! 34 refl)) $
@@ -367,17 +367,17 @@ module _ {M : Type 1} (𝓤 : URA M) (H : Heap 𝓤) (A : Atoms 𝓤) (W : Given
         assigns ! (addr ! (from ! (fld ! refl (hop ! (look-in ! 28 (sub ! 0 refl (whole !))) (stop !))))) (from ! (stop !)) (init ! 52 refl (tt, tt)) $ assigns ! (agg ! (and-then ! (load ! (from ! (stop !)) (look ! 52 refl)) (and-then ! (load ! (from ! (fld ! refl (stop !))) (look-in ! 28 (sub ! 1 refl (whole !)))) (no-more !)))) (from ! (stop !)) (init ! 54 refl (tt, (tt, (record { fits = room-readings .0 }, tt)))) $
         copies i e
 
-    left : (i : State) → i .state .whole ≡ false → Sq W (full tyU l₀ (LL.val U.the-type U′.the-laws (i .state)) (full tyO l₁ (LL.val O.the-type O′.the-laws opened) (full (sliceTy (tyRef (named 0) imm (tyInt w8))) l₂ v-piece (full (sliceTy (tyRef (named 1) mut (tyInt w32))) l₃ v-near (full (sliceTy (tyRef (named 2) mut (tyInt w32))) l₄ v-far (full (sliceTy (tyRef (named 3) mut (tyInt w16))) l₅ v-slots (full (sliceTy (tyRef (named 4) mut (tyInt w32))) l₆ v-daily (full (sliceTy (tyRef (named 5) mut (pointee (R.the-row .written)))) l₇ v-readings (full (sliceTy (tyRef (named 6) imm (tyInt w64))) l₈ v-curve (full tyU l₉ (LL.val U.the-type U′.the-laws (i .state)) (full tyBool l₁₀ (vbool false) (bare (tyRef erased mut (tyInt w32)) l₁₁ (bare (sliceTy (tyRef erased mut (tyInt w32))) l₁₂ (bare (tyRef erased mut (tyInt w32)) l₁₃ (bare (sliceTy (tyRef erased mut (tyInt w32))) l₁₄ (bare (tyRef erased mut (tyInt w16)) l₁₅ (bare (sliceTy (tyRef erased mut (tyInt w16))) l₁₆ (bare (tyRef erased mut (tyInt w32)) l₁₇ (bare (sliceTy (tyRef erased mut (tyInt w32))) l₁₈ (bare (tyRef erased mut (pointee (R.the-row .written))) l₁₉ (bare (sliceTy (tyRef erased mut (pointee (R.the-row .written)))) l₂₀ (Has i [])))))))))))))))))))))) (frees En (prop (Post (LL.val U.the-type U′.the-laws (i .state)))))
+    left : (i : State) → hasLine (i .state) ≡ false → Sq W (full tyU l₀ (LL.val U.the-type U′.the-laws (i .state)) (full tyO l₁ (LL.val O.the-type O′.the-laws opened) (full (sliceTy (tyRef (named 0) imm (tyInt w8))) l₂ v-piece (full (sliceTy (tyRef (named 1) mut (tyInt w32))) l₃ v-near (full (sliceTy (tyRef (named 2) mut (tyInt w32))) l₄ v-far (full (sliceTy (tyRef (named 3) mut (tyInt w16))) l₅ v-slots (full (sliceTy (tyRef (named 4) mut (tyInt w32))) l₆ v-daily (full (sliceTy (tyRef (named 5) mut (pointee (R.the-row .written)))) l₇ v-readings (full (sliceTy (tyRef (named 6) imm (tyInt w64))) l₈ v-curve (full tyU l₉ (LL.val U.the-type U′.the-laws (i .state)) (full tyBool l₁₀ (vbool false) (bare (tyRef erased mut (tyInt w32)) l₁₁ (bare (sliceTy (tyRef erased mut (tyInt w32))) l₁₂ (bare (tyRef erased mut (tyInt w32)) l₁₃ (bare (sliceTy (tyRef erased mut (tyInt w32))) l₁₄ (bare (tyRef erased mut (tyInt w16)) l₁₅ (bare (sliceTy (tyRef erased mut (tyInt w16))) l₁₆ (bare (tyRef erased mut (tyInt w32)) l₁₇ (bare (sliceTy (tyRef erased mut (tyInt w32))) l₁₈ (bare (tyRef erased mut (pointee (R.the-row .written))) l₁₉ (bare (sliceTy (tyRef erased mut (pointee (R.the-row .written)))) l₂₀ (Has i [])))))))))))))))))))))) (frees En (prop (Post (LL.val U.the-type U′.the-laws (i .state)))))
     left i e =
         gone ! $ gone ! $ gone ! $ gone ! $ gone ! $ gone ! $ gone ! $ gone ! $ gone ! $ gone ! $ gone ! $ free1 ! $ free1 ! $ free1 ! $ free1 ! $ free1 ! $ free1 ! $ free1 ! $ free1 ! $ free1 ! $ free1 ! $ free0 ! $ by ! (exits i e)
 
-    ends : (i : State) → i .state .whole ≡ false → Sq W (Tested i false) (runs C Λ En (rests 1 pieces.turn-1) (anyQ (Turned i)))
+    ends : (i : State) → hasLine (i .state) ≡ false → Sq W (Tested i false) (runs C Λ En (rests 1 pieces.turn-1) (anyQ (Turned i)))
     unfolding afterTurn
     ends i e =
         leaves-loop ! (load ! (from ! (stop !)) (look ! 34 refl)) $ exec ! C Λ En pieces.t-3 (atRet En Post) $
         assigns ! (of-opd ! (load ! (from ! (stop !)) (look ! 32 refl))) (from ! (stop !)) (init ! 14 refl (LL.lawful U.the-type U′.the-laws 𝓤 H A W .typed (i .state) _ (i .state-is) .0)) $ ret ! (look ! 14 refl) $ keep ! (14 ∷ 15 ∷ 16 ∷ 17 ∷ 18 ∷ 19 ∷ 20 ∷ 21 ∷ 22 ∷ 23 ∷ 24 ∷ 25 ∷ 26 ∷ 27 ∷ 28 ∷ 29 ∷ 30 ∷ 31 ∷ 32 ∷ 33 ∷ 34 ∷ 35 ∷ 36 ∷ 37 ∷ 38 ∷ 39 ∷ 40 ∷ 41 ∷ 42 ∷ 43 ∷ 44 ∷ 45 ∷ 46 ∷ 47 ∷ 48 ∷ 49 ∷ 50 ∷ 51 ∷ 52 ∷ 53 ∷ 54 ∷ 55 ∷ 0 ∷ 1 ∷ 2 ∷ 3 ∷ 4 ∷ 5 ∷ 6 ∷ 7 ∷ 8 ∷ 9 ∷ 10 ∷ 11 ∷ 12 ∷ 13 ∷ []) $ left i e
 
-    at-test : (i : State) (z : Bool) → i .state .whole ≡ z → Sq W (Tested i z) (runs C Λ En (rests 1 pieces.turn-1) (anyQ (Turned i)))
+    at-test : (i : State) (z : Bool) → hasLine (i .state) ≡ z → Sq W (Tested i z) (runs C Λ En (rests 1 pieces.turn-1) (anyQ (Turned i)))
     at-test i true e = more i e
     at-test i false e = ends i e
 
@@ -385,8 +385,8 @@ module _ {M : Type 1} (𝓤 : URA M) (H : Heap 𝓤) (A : Atoms 𝓤) (W : Given
     turns i =
         nothing ! $ use1 W (raw (HasLine 𝓤 H A mem run .pre (to-has-line i))) (goes-has-line i) $ calls-at ! (fmOf 𝓤 H (W .laws) 𝓣) (HasLine 𝓤 H A mem run) known-has-line (to-has-line i) (and-then ! (load ! (from ! (stop !)) (look ! 33 refl)) (no-more !)) (λ w.
         use1 W (later (some (λ (r : Bool). ((‵ ftrue) ⊛ ‵ (bool .own r (w ∷ []))) ⊛ raw (ensured 𝓤 H A has-line.ended (has-line.clauses 𝓤 H A mem run) tt (i .state, tt) tt r)))) (id⊢ 𝓤 _) $ await ! tt $ pick ! (λ r.
-        split ! $ move ! (1 ∷ []) $ use1 W (some (λ (ms : Unit {0} × Unit {0}). ‵ (lasts has-line.ended tt (i .state, tt) ms) ⊛ raw (fact 𝓤 (r ≡ i .state .whole)))) (id⊢ 𝓤 _) $ pick ! (λ ms.
-        split ! $ move ! (1 ∷ []) $ heard ! (r ≡ i .state .whole) (λ e. fsplit ! $ drop ! $ drop ! $ split ! $ move ! (1 ∷ []) $ peeks ! bool (Is bool) (shows 𝓤 H A bool) r (w ∷ []) (λ is. land ! (from ! (stop !)) (init ! 36 refl (bool-lawful 𝓤 H A W .typed r _ is .0)) $ drop ! $ drop ! $ rewrite ! 34 (λ (u : Val). ‵ (fat fullShare tyBool l₁₀ 0 u)) (ap only (bool-tells r _ is)) refl $ at-test i r (sym e))))))
+        split ! $ move ! (1 ∷ []) $ use1 W (some (λ (ms : Unit {0} × Unit {0}). ‵ (lasts has-line.ended tt (i .state, tt) ms) ⊛ raw (fact 𝓤 (r ≡ hasLine (i .state))))) (id⊢ 𝓤 _) $ pick ! (λ ms.
+        split ! $ move ! (1 ∷ []) $ heard ! (r ≡ hasLine (i .state)) (λ e. fsplit ! $ drop ! $ drop ! $ split ! $ move ! (1 ∷ []) $ peeks ! bool (Is bool) (shows 𝓤 H A bool) r (w ∷ []) (λ is. land ! (from ! (stop !)) (init ! 36 refl (bool-lawful 𝓤 H A W .typed r _ is .0)) $ drop ! $ drop ! $ rewrite ! 34 (λ (u : Val). ‵ (fat fullShare tyBool l₁₀ 0 u)) (ap only (bool-tells r _ is)) refl $ at-test i r (sym e))))))
 
   -- the state at the start
   abbrev begins : (r : Turn) (w : Val) → Is U.the-row r (w ∷ []) → r ≡ turnOf opened (piece .now) 0 → State

@@ -197,7 +197,7 @@ module _ {M : Type 1} (𝓤 : URA M) (H : Heap 𝓤) (A : Atoms 𝓤) (W : Given
   goes-turn-after r w is =
       qed W (‵ (flft κ₀ q₀) ∷ ‵ Own-piece ∷ []) ∵ nothing ! $ move ! (2 ∷ 0 ∷ []) $ fjoin ! $ owned ! U.the-row (Is U.the-row) (LL.makes U.the-type U′.the-plain 𝓤 H A) (turn) _ turn-is $ fjoin ! $ owned ! O.the-row (Is O.the-row) (LL.makes O.the-type O′.the-plain 𝓤 H A) (r) _ is $ fjoin ! $ nothing ! $ move ! (2 ∷ 0 ∷ []) $ join ! $ join ! $ frame ! $ done !
 
-  exits : (r₁ : RefT (List ℕ)) (r₃ : Record) (r : Opened) (r₂ : Turn) (w₂ : Val) (near′ : List ℕ) (far′ : List ℕ) (slots′ : List ℕ) (daily′ : List ℕ) (readings′ : List Reading) → Is U.the-row r₂ (w₂ ∷ []) → r₁ .now ≡ partOf (piece .now) (turn .from) (turn .to) → r₃ ≡ turn .«record» → handsBack r (world near′ far′ slots′ daily′ (seen readings′) (curve .now)) ≡ lineOf (view r₃) (r₁ .now) (world (near .now) (far .now) (slots .now) (daily .now) (seen (readings .now)) (curve .now)) → r₂ ≡ turnOf r (piece .now) (turn .past) → length near′ ≡ length (near .now) → length far′ ≡ length (far .now) → length slots′ ≡ length (slots .now) → length daily′ ≡ length (daily .now) → length readings′ ≡ length (readings .now)
+  exits : (r₁ : RefT (List ℕ)) (r₃ : Record) (r : Opened) (r₂ : Turn) (w₂ : Val) (near′ : List ℕ) (far′ : List ℕ) (slots′ : List ℕ) (daily′ : List ℕ) (readings′ : List Reading) → Is U.the-row r₂ (w₂ ∷ []) → r₁ .now ≡ partOf (piece .now) (turn .next .from) (turn .next .to) → r₃ ≡ turn .«record» → handsBack r (world near′ far′ slots′ daily′ (seen readings′) (curve .now)) ≡ lineOf (view r₃) (r₁ .now) (world (near .now) (far .now) (slots .now) (daily .now) (seen (readings .now)) (curve .now)) → r₂ ≡ turnOf r (piece .now) (turn .next .past) → length near′ ≡ length (near .now) → length far′ ≡ length (far .now) → length slots′ ≡ length (slots .now) → length daily′ ≡ length (daily .now) → length readings′ ≡ length (readings .now)
       → ent 𝓤 (⋆ 𝓤 H A (‵ (flft κ₀ q₀) ∷ ‵ (flft κ₁ q₁) ∷ ‵ (flft κ₂ q₂) ∷ ‵ (flft κ₃ q₃) ∷ ‵ (flft κ₄ q₄) ∷ ‵ (flft κ₅ q₅) ∷ ‵ (flft κ₆ q₆) ∷ ‵ (finally u32 (near .name) near′) ∷ ‵ (finally u32 (far .name) far′) ∷ ‵ (finally u16 (slots .name) slots′) ∷ ‵ (finally u32 (daily .name) daily′) ∷ ‵ (finally R.the-row (readings .name) readings′) ∷ ‵ Own-piece ∷ ‵ Own-curve ∷ [])) (Post w₂)
   exits r₁ r₃ r r₂ w₂ near′ far′ slots′ daily′ readings′ is₂ e₁ e₃ e e₂ l-near l-far l-slots l-daily l-readings =
       qed W (‵ (flft κ₀ q₀) ∷ ‵ (flft κ₁ q₁) ∷ ‵ (flft κ₂ q₂) ∷ ‵ (flft κ₃ q₃) ∷ ‵ (flft κ₄ q₄) ∷ ‵ (flft κ₅ q₅) ∷ ‵ (flft κ₆ q₆) ∷ ‵ (finally u32 (near .name) near′) ∷ ‵ (finally u32 (far .name) far′) ∷ ‵ (finally u16 (slots .name) slots′) ∷ ‵ (finally u32 (daily .name) daily′) ∷ ‵ (finally R.the-row (readings .name) readings′) ∷ ‵ Own-piece ∷ ‵ Own-curve ∷ []) ∵
@@ -210,29 +210,29 @@ module _ {M : Type 1} (𝓤 : URA M) (H : Heap 𝓤) (A : Atoms 𝓤) (W : Given
     En = (tyU, l₀) ∷ (tyU, l₁) ∷ ((sliceTy (tyRef (named 0) imm (tyInt w8))), l₂) ∷ ((sliceTy (tyRef (named 1) mut (tyInt w32))), l₃) ∷ ((sliceTy (tyRef (named 2) mut (tyInt w32))), l₄) ∷ ((sliceTy (tyRef (named 3) mut (tyInt w16))), l₅) ∷ ((sliceTy (tyRef (named 4) mut (tyInt w32))), l₆) ∷ ((sliceTy (tyRef (named 5) mut (pointee (R.the-row .written)))), l₇) ∷ ((sliceTy (tyRef (named 6) imm (tyInt w64))), l₈) ∷ ((sliceTy (tyRef erased imm (tyInt w8))), l₉) ∷ (tyT, l₁₀) ∷ (tyO, l₁₁) ∷ ((tyRef erased mut (tyInt w32)), l₁₂) ∷ ((sliceTy (tyRef erased mut (tyInt w32))), l₁₃) ∷ ((tyRef erased mut (tyInt w32)), l₁₄) ∷ ((sliceTy (tyRef erased mut (tyInt w32))), l₁₅) ∷ ((tyRef erased mut (tyInt w16)), l₁₆) ∷ ((sliceTy (tyRef erased mut (tyInt w16))), l₁₇) ∷ ((tyRef erased mut (tyInt w32)), l₁₈) ∷ ((sliceTy (tyRef erased mut (tyInt w32))), l₁₉) ∷ ((tyRef erased mut (pointee (R.the-row .written))), l₂₀) ∷ ((sliceTy (tyRef erased mut (pointee (R.the-row .written)))), l₂₁) ∷ []
 
     -- the locals at the return, in the order in which they are freed
-    left : (w : Val) (w₁ : Val) (w₃ : Val) (r₁ : RefT (List ℕ)) (r₃ : Record) (r : Opened) (r₂ : Turn) (w₂ : Val) (near′ : List ℕ) (far′ : List ℕ) (slots′ : List ℕ) (daily′ : List ℕ) (readings′ : List Reading) → Is U.the-row r₂ (w₂ ∷ []) → r₁ .now ≡ partOf (piece .now) (turn .from) (turn .to) → r₃ ≡ turn .«record» → handsBack r (world near′ far′ slots′ daily′ (seen readings′) (curve .now)) ≡ lineOf (view r₃) (r₁ .now) (world (near .now) (far .now) (slots .now) (daily .now) (seen (readings .now)) (curve .now)) → r₂ ≡ turnOf r (piece .now) (turn .past) → length near′ ≡ length (near .now) → length far′ ≡ length (far .now) → length slots′ ≡ length (slots .now) → length daily′ ≡ length (daily .now) → length readings′ ≡ length (readings .now)
+    left : (w : Val) (w₁ : Val) (w₃ : Val) (r₁ : RefT (List ℕ)) (r₃ : Record) (r : Opened) (r₂ : Turn) (w₂ : Val) (near′ : List ℕ) (far′ : List ℕ) (slots′ : List ℕ) (daily′ : List ℕ) (readings′ : List Reading) → Is U.the-row r₂ (w₂ ∷ []) → r₁ .now ≡ partOf (piece .now) (turn .next .from) (turn .next .to) → r₃ ≡ turn .«record» → handsBack r (world near′ far′ slots′ daily′ (seen readings′) (curve .now)) ≡ lineOf (view r₃) (r₁ .now) (world (near .now) (far .now) (slots .now) (daily .now) (seen (readings .now)) (curve .now)) → r₂ ≡ turnOf r (piece .now) (turn .next .past) → length near′ ≡ length (near .now) → length far′ ≡ length (far .now) → length slots′ ≡ length (slots .now) → length daily′ ≡ length (daily .now) → length readings′ ≡ length (readings .now)
         → Sq W (full tyU l₀ w₂ (full tyU l₁ (LL.val U.the-type U′.the-laws turn) (full (sliceTy (tyRef (named 0) imm (tyInt w8))) l₂ v-piece (full (sliceTy (tyRef (named 1) mut (tyInt w32))) l₃ v-near (full (sliceTy (tyRef (named 2) mut (tyInt w32))) l₄ v-far (full (sliceTy (tyRef (named 3) mut (tyInt w16))) l₅ v-slots (full (sliceTy (tyRef (named 4) mut (tyInt w32))) l₆ v-daily (full (sliceTy (tyRef (named 5) mut (pointee (R.the-row .written)))) l₇ v-readings (full (sliceTy (tyRef (named 6) imm (tyInt w64))) l₈ v-curve (full (sliceTy (tyRef erased imm (tyInt w8))) l₉ w₁ (full tyT l₁₀ w₃ (full tyO l₁₁ w (full (tyRef erased mut (tyInt w32)) l₁₂ (vptr (near .ptr .0) (near .ptr .1)) (full (sliceTy (tyRef erased mut (tyInt w32))) l₁₃ v-near (full (tyRef erased mut (tyInt w32)) l₁₄ (vptr (far .ptr .0) (far .ptr .1)) (full (sliceTy (tyRef erased mut (tyInt w32))) l₁₅ v-far (full (tyRef erased mut (tyInt w16)) l₁₆ (vptr (slots .ptr .0) (slots .ptr .1)) (full (sliceTy (tyRef erased mut (tyInt w16))) l₁₇ v-slots (full (tyRef erased mut (tyInt w32)) l₁₈ (vptr (daily .ptr .0) (daily .ptr .1)) (full (sliceTy (tyRef erased mut (tyInt w32))) l₁₉ v-daily (full (tyRef erased mut (pointee (R.the-row .written))) l₂₀ (vptr (readings .ptr .0) (readings .ptr .1)) (full (sliceTy (tyRef erased mut (pointee (R.the-row .written)))) l₂₁ v-readings (‵ (flft κ₀ q₀) ∷ ‵ (flft κ₁ q₁) ∷ ‵ (flft κ₂ q₂) ∷ ‵ (flft κ₃ q₃) ∷ ‵ (flft κ₄ q₄) ∷ ‵ (flft κ₅ q₅) ∷ ‵ (flft κ₆ q₆) ∷ ‵ (finally u32 (near .name) near′) ∷ ‵ (finally u32 (far .name) far′) ∷ ‵ (finally u16 (slots .name) slots′) ∷ ‵ (finally u32 (daily .name) daily′) ∷ ‵ (finally R.the-row (readings .name) readings′) ∷ ‵ Own-piece ∷ ‵ Own-curve ∷ []))))))))))))))))))))))) (frees En (prop (Post w₂)))
     left w w₁ w₃ r₁ r₃ r r₂ w₂ near′ far′ slots′ daily′ readings′ is₂ e₁ e₃ e e₂ l-near l-far l-slots l-daily l-readings =
         gone ! $ gone ! $ gone ! $ gone ! $ gone ! $ gone ! $ gone ! $ gone ! $ gone ! $ gone ! $ gone ! $ gone ! $ gone ! $ gone ! $ gone ! $ gone ! $ gone ! $ gone ! $ gone ! $ gone ! $ gone ! $ gone ! $ free0 ! $ by ! (exits r₁ r₃ r r₂ w₂ near′ far′ slots′ daily′ readings′ is₂ e₁ e₃ e e₂ l-near l-far l-slots l-daily l-readings)
 
   module _ (C : Calls 𝓤 H) (Λ : Loops 𝓤 H) (fm : FmC 𝓤 H (W .laws) C) (known-line-of : Triple 𝓤 (C #piece-lines·lines·line-of) (LineOf 𝓤 H A mem run)) (known-record-of : Triple 𝓤 (C #piece-lines·lines·record-of) (RecordOf 𝓤 H A mem run)) (known-line : Triple 𝓤 (C #site·Record·line) (Line 𝓤 H A mem run)) (known-turn-after : Triple 𝓤 (C #piece-lines·lines·turn-after) (TurnAfter 𝓤 H A mem run)) where
     module _ (l₀ l₁ l₂ l₃ l₄ l₅ l₆ l₇ l₈ l₉ l₁₀ l₁₁ l₁₂ l₁₃ l₁₄ l₁₅ l₁₆ l₁₇ l₁₈ l₁₉ l₂₀ l₂₁ : ℕ) where
-      after-turn-after : (r₁ : RefT (List ℕ)) (w₁ : Val) (is₁ : Is (ShrSlice erased κ₀ u8) r₁ (w₁ ∷ [])) (e₁ : r₁ .now ≡ partOf (piece .now) (turn .from) (turn .to)) (r₃ : Record) (w₃ : Val) (is₃ : Is T.the-row r₃ (w₃ ∷ [])) (e₃ : r₃ ≡ turn .«record») (r : Opened) (w : Val) (near′ : List ℕ) (far′ : List ℕ) (slots′ : List ℕ) (daily′ : List ℕ) (readings′ : List Reading) (is : Is O.the-row r (w ∷ [])) (e : handsBack r (world near′ far′ slots′ daily′ (seen readings′) (curve .now)) ≡ lineOf (view r₃) (r₁ .now) (world (near .now) (far .now) (slots .now) (daily .now) (seen (readings .now)) (curve .now))) (l-near : length near′ ≡ length (near .now)) (l-far : length far′ ≡ length (far .now)) (l-slots : length slots′ ≡ length (slots .now)) (l-daily : length daily′ ≡ length (daily .now)) (l-readings : length readings′ ≡ length (readings .now)) (r₂ : Turn) (w₂ : Val) (is₂ : Is U.the-row r₂ (w₂ ∷ [])) (e₂ : r₂ ≡ turnOf r (piece .now) (turn .past)) → Sq W (‵ (flft κ₀ q₀) ∷ ‵ (flft κ₆ q₆) ∷ ‵ (flft κ₅ q₅) ∷ ‵ (flft κ₄ q₄) ∷ ‵ (flft κ₃ q₃) ∷ ‵ (flft κ₂ q₂) ∷ ‵ (flft κ₁ q₁) ∷ ‵ (finally R.the-row (readings .name) readings′) ∷ ‵ (finally u32 (daily .name) daily′) ∷ ‵ (finally u16 (slots .name) slots′) ∷ ‵ (finally u32 (far .name) far′) ∷ ‵ (finally u32 (near .name) near′) ∷ ‵ Own-piece ∷ ‵ Own-curve ∷ ‵ (fat fullShare (sliceTy (tyRef erased mut (pointee (R.the-row .written)))) l₂₁ 0 v-readings) ∷ ‵ (fdies (sliceTy (tyRef erased mut (pointee (R.the-row .written)))) l₂₁) ∷ ‵ (fat fullShare (tyRef erased mut (pointee (R.the-row .written))) l₂₀ 0 (vptr (readings .ptr .0) (readings .ptr .1))) ∷ ‵ (fdies (tyRef erased mut (pointee (R.the-row .written))) l₂₀) ∷ ‵ (fat fullShare (sliceTy (tyRef erased mut (tyInt w32))) l₁₉ 0 v-daily) ∷ ‵ (fdies (sliceTy (tyRef erased mut (tyInt w32))) l₁₉) ∷ ‵ (fat fullShare (tyRef erased mut (tyInt w32)) l₁₈ 0 (vptr (daily .ptr .0) (daily .ptr .1))) ∷ ‵ (fdies (tyRef erased mut (tyInt w32)) l₁₈) ∷ ‵ (fat fullShare (sliceTy (tyRef erased mut (tyInt w16))) l₁₇ 0 v-slots) ∷ ‵ (fdies (sliceTy (tyRef erased mut (tyInt w16))) l₁₇) ∷ ‵ (fat fullShare (tyRef erased mut (tyInt w16)) l₁₆ 0 (vptr (slots .ptr .0) (slots .ptr .1))) ∷ ‵ (fdies (tyRef erased mut (tyInt w16)) l₁₆) ∷ ‵ (fat fullShare (sliceTy (tyRef erased mut (tyInt w32))) l₁₅ 0 v-far) ∷ ‵ (fdies (sliceTy (tyRef erased mut (tyInt w32))) l₁₅) ∷ ‵ (fat fullShare (tyRef erased mut (tyInt w32)) l₁₄ 0 (vptr (far .ptr .0) (far .ptr .1))) ∷ ‵ (fdies (tyRef erased mut (tyInt w32)) l₁₄) ∷ ‵ (fat fullShare (sliceTy (tyRef erased mut (tyInt w32))) l₁₃ 0 v-near) ∷ ‵ (fdies (sliceTy (tyRef erased mut (tyInt w32))) l₁₃) ∷ ‵ (fat fullShare (tyRef erased mut (tyInt w32)) l₁₂ 0 (vptr (near .ptr .0) (near .ptr .1))) ∷ ‵ (fdies (tyRef erased mut (tyInt w32)) l₁₂) ∷ ‵ (fat fullShare tyO l₁₁ 0 w) ∷ ‵ (fdies tyO l₁₁) ∷ ‵ (fat fullShare tyT l₁₀ 0 w₃) ∷ ‵ (fdies tyT l₁₀) ∷ ‵ (fat fullShare (sliceTy (tyRef erased imm (tyInt w8))) l₉ 0 w₁) ∷ ‵ (fdies (sliceTy (tyRef erased imm (tyInt w8))) l₉) ∷ ‵ (fat fullShare (sliceTy (tyRef (named 6) imm (tyInt w64))) l₈ 0 v-curve) ∷ ‵ (fdies (sliceTy (tyRef (named 6) imm (tyInt w64))) l₈) ∷ ‵ (fat fullShare (sliceTy (tyRef (named 5) mut (pointee (R.the-row .written)))) l₇ 0 v-readings) ∷ ‵ (fdies (sliceTy (tyRef (named 5) mut (pointee (R.the-row .written)))) l₇) ∷ ‵ (fat fullShare (sliceTy (tyRef (named 4) mut (tyInt w32))) l₆ 0 v-daily) ∷ ‵ (fdies (sliceTy (tyRef (named 4) mut (tyInt w32))) l₆) ∷ ‵ (fat fullShare (sliceTy (tyRef (named 3) mut (tyInt w16))) l₅ 0 v-slots) ∷ ‵ (fdies (sliceTy (tyRef (named 3) mut (tyInt w16))) l₅) ∷ ‵ (fat fullShare (sliceTy (tyRef (named 2) mut (tyInt w32))) l₄ 0 v-far) ∷ ‵ (fdies (sliceTy (tyRef (named 2) mut (tyInt w32))) l₄) ∷ ‵ (fat fullShare (sliceTy (tyRef (named 1) mut (tyInt w32))) l₃ 0 v-near) ∷ ‵ (fdies (sliceTy (tyRef (named 1) mut (tyInt w32))) l₃) ∷ ‵ (fat fullShare (sliceTy (tyRef (named 0) imm (tyInt w8))) l₂ 0 v-piece) ∷ ‵ (fdies (sliceTy (tyRef (named 0) imm (tyInt w8))) l₂) ∷ ‵ (fat fullShare tyU l₁ 0 (LL.val U.the-type U′.the-laws turn)) ∷ ‵ (fdies tyU l₁) ∷ ‵ (fat fullShare tyU l₀ 0 w₂) ∷ ‵ (fdies tyU l₀) ∷ []) (runs C Λ (En l₀ l₁ l₂ l₃ l₄ l₅ l₆ l₇ l₈ l₉ l₁₀ l₁₁ l₁₂ l₁₃ l₁₄ l₁₅ l₁₆ l₁₇ l₁₈ l₁₉ l₂₀ l₂₁) pieces.t-15 (atRet (En l₀ l₁ l₂ l₃ l₄ l₅ l₆ l₇ l₈ l₉ l₁₀ l₁₁ l₁₂ l₁₃ l₁₄ l₁₅ l₁₆ l₁₇ l₁₈ l₁₉ l₂₀ l₂₁) Post))
+      after-turn-after : (r₁ : RefT (List ℕ)) (w₁ : Val) (is₁ : Is (ShrSlice erased κ₀ u8) r₁ (w₁ ∷ [])) (e₁ : r₁ .now ≡ partOf (piece .now) (turn .next .from) (turn .next .to)) (r₃ : Record) (w₃ : Val) (is₃ : Is T.the-row r₃ (w₃ ∷ [])) (e₃ : r₃ ≡ turn .«record») (r : Opened) (w : Val) (near′ : List ℕ) (far′ : List ℕ) (slots′ : List ℕ) (daily′ : List ℕ) (readings′ : List Reading) (is : Is O.the-row r (w ∷ [])) (e : handsBack r (world near′ far′ slots′ daily′ (seen readings′) (curve .now)) ≡ lineOf (view r₃) (r₁ .now) (world (near .now) (far .now) (slots .now) (daily .now) (seen (readings .now)) (curve .now))) (l-near : length near′ ≡ length (near .now)) (l-far : length far′ ≡ length (far .now)) (l-slots : length slots′ ≡ length (slots .now)) (l-daily : length daily′ ≡ length (daily .now)) (l-readings : length readings′ ≡ length (readings .now)) (r₂ : Turn) (w₂ : Val) (is₂ : Is U.the-row r₂ (w₂ ∷ [])) (e₂ : r₂ ≡ turnOf r (piece .now) (turn .next .past)) → Sq W (‵ (flft κ₀ q₀) ∷ ‵ (flft κ₆ q₆) ∷ ‵ (flft κ₅ q₅) ∷ ‵ (flft κ₄ q₄) ∷ ‵ (flft κ₃ q₃) ∷ ‵ (flft κ₂ q₂) ∷ ‵ (flft κ₁ q₁) ∷ ‵ (finally R.the-row (readings .name) readings′) ∷ ‵ (finally u32 (daily .name) daily′) ∷ ‵ (finally u16 (slots .name) slots′) ∷ ‵ (finally u32 (far .name) far′) ∷ ‵ (finally u32 (near .name) near′) ∷ ‵ Own-piece ∷ ‵ Own-curve ∷ ‵ (fat fullShare (sliceTy (tyRef erased mut (pointee (R.the-row .written)))) l₂₁ 0 v-readings) ∷ ‵ (fdies (sliceTy (tyRef erased mut (pointee (R.the-row .written)))) l₂₁) ∷ ‵ (fat fullShare (tyRef erased mut (pointee (R.the-row .written))) l₂₀ 0 (vptr (readings .ptr .0) (readings .ptr .1))) ∷ ‵ (fdies (tyRef erased mut (pointee (R.the-row .written))) l₂₀) ∷ ‵ (fat fullShare (sliceTy (tyRef erased mut (tyInt w32))) l₁₉ 0 v-daily) ∷ ‵ (fdies (sliceTy (tyRef erased mut (tyInt w32))) l₁₉) ∷ ‵ (fat fullShare (tyRef erased mut (tyInt w32)) l₁₈ 0 (vptr (daily .ptr .0) (daily .ptr .1))) ∷ ‵ (fdies (tyRef erased mut (tyInt w32)) l₁₈) ∷ ‵ (fat fullShare (sliceTy (tyRef erased mut (tyInt w16))) l₁₇ 0 v-slots) ∷ ‵ (fdies (sliceTy (tyRef erased mut (tyInt w16))) l₁₇) ∷ ‵ (fat fullShare (tyRef erased mut (tyInt w16)) l₁₆ 0 (vptr (slots .ptr .0) (slots .ptr .1))) ∷ ‵ (fdies (tyRef erased mut (tyInt w16)) l₁₆) ∷ ‵ (fat fullShare (sliceTy (tyRef erased mut (tyInt w32))) l₁₅ 0 v-far) ∷ ‵ (fdies (sliceTy (tyRef erased mut (tyInt w32))) l₁₅) ∷ ‵ (fat fullShare (tyRef erased mut (tyInt w32)) l₁₄ 0 (vptr (far .ptr .0) (far .ptr .1))) ∷ ‵ (fdies (tyRef erased mut (tyInt w32)) l₁₄) ∷ ‵ (fat fullShare (sliceTy (tyRef erased mut (tyInt w32))) l₁₃ 0 v-near) ∷ ‵ (fdies (sliceTy (tyRef erased mut (tyInt w32))) l₁₃) ∷ ‵ (fat fullShare (tyRef erased mut (tyInt w32)) l₁₂ 0 (vptr (near .ptr .0) (near .ptr .1))) ∷ ‵ (fdies (tyRef erased mut (tyInt w32)) l₁₂) ∷ ‵ (fat fullShare tyO l₁₁ 0 w) ∷ ‵ (fdies tyO l₁₁) ∷ ‵ (fat fullShare tyT l₁₀ 0 w₃) ∷ ‵ (fdies tyT l₁₀) ∷ ‵ (fat fullShare (sliceTy (tyRef erased imm (tyInt w8))) l₉ 0 w₁) ∷ ‵ (fdies (sliceTy (tyRef erased imm (tyInt w8))) l₉) ∷ ‵ (fat fullShare (sliceTy (tyRef (named 6) imm (tyInt w64))) l₈ 0 v-curve) ∷ ‵ (fdies (sliceTy (tyRef (named 6) imm (tyInt w64))) l₈) ∷ ‵ (fat fullShare (sliceTy (tyRef (named 5) mut (pointee (R.the-row .written)))) l₇ 0 v-readings) ∷ ‵ (fdies (sliceTy (tyRef (named 5) mut (pointee (R.the-row .written)))) l₇) ∷ ‵ (fat fullShare (sliceTy (tyRef (named 4) mut (tyInt w32))) l₆ 0 v-daily) ∷ ‵ (fdies (sliceTy (tyRef (named 4) mut (tyInt w32))) l₆) ∷ ‵ (fat fullShare (sliceTy (tyRef (named 3) mut (tyInt w16))) l₅ 0 v-slots) ∷ ‵ (fdies (sliceTy (tyRef (named 3) mut (tyInt w16))) l₅) ∷ ‵ (fat fullShare (sliceTy (tyRef (named 2) mut (tyInt w32))) l₄ 0 v-far) ∷ ‵ (fdies (sliceTy (tyRef (named 2) mut (tyInt w32))) l₄) ∷ ‵ (fat fullShare (sliceTy (tyRef (named 1) mut (tyInt w32))) l₃ 0 v-near) ∷ ‵ (fdies (sliceTy (tyRef (named 1) mut (tyInt w32))) l₃) ∷ ‵ (fat fullShare (sliceTy (tyRef (named 0) imm (tyInt w8))) l₂ 0 v-piece) ∷ ‵ (fdies (sliceTy (tyRef (named 0) imm (tyInt w8))) l₂) ∷ ‵ (fat fullShare tyU l₁ 0 (LL.val U.the-type U′.the-laws turn)) ∷ ‵ (fdies tyU l₁) ∷ ‵ (fat fullShare tyU l₀ 0 w₂) ∷ ‵ (fdies tyU l₀) ∷ []) (runs C Λ (En l₀ l₁ l₂ l₃ l₄ l₅ l₆ l₇ l₈ l₉ l₁₀ l₁₁ l₁₂ l₁₃ l₁₄ l₁₅ l₁₆ l₁₇ l₁₈ l₁₉ l₂₀ l₂₁) pieces.t-15 (atRet (En l₀ l₁ l₂ l₃ l₄ l₅ l₆ l₇ l₈ l₉ l₁₀ l₁₁ l₁₂ l₁₃ l₁₄ l₁₅ l₁₆ l₁₇ l₁₈ l₁₉ l₂₀ l₂₁) Post))
       after-turn-after r₁ w₁ is₁ e₁ r₃ w₃ is₃ e₃ r w near′ far′ slots′ daily′ readings′ is e l-near l-far l-slots l-daily l-readings r₂ w₂ is₂ e₂ =
           returns ! (look ! 56 refl) $ keep ! (56 ∷ 57 ∷ 54 ∷ 55 ∷ 52 ∷ 53 ∷ 50 ∷ 51 ∷ 48 ∷ 49 ∷ 46 ∷ 47 ∷ 44 ∷ 45 ∷ 42 ∷ 43 ∷ 40 ∷ 41 ∷ 38 ∷ 39 ∷ 36 ∷ 37 ∷ 34 ∷ 35 ∷ 32 ∷ 33 ∷ 30 ∷ 31 ∷ 28 ∷ 29 ∷ 26 ∷ 27 ∷ 24 ∷ 25 ∷ 22 ∷ 23 ∷ 20 ∷ 21 ∷ 18 ∷ 19 ∷ 16 ∷ 17 ∷ 14 ∷ 15 ∷ 0 ∷ 6 ∷ 5 ∷ 4 ∷ 3 ∷ 2 ∷ 1 ∷ 11 ∷ 10 ∷ 9 ∷ 8 ∷ 7 ∷ 12 ∷ 13 ∷ []) $ left l₀ l₁ l₂ l₃ l₄ l₅ l₆ l₇ l₈ l₉ l₁₀ l₁₁ l₁₂ l₁₃ l₁₄ l₁₅ l₁₆ l₁₇ l₁₈ l₁₉ l₂₀ l₂₁ w w₁ w₃ r₁ r₃ r r₂ w₂ near′ far′ slots′ daily′ readings′ is₂ e₁ e₃ e e₂ l-near l-far l-slots l-daily l-readings
 
-      after-line : (r₁ : RefT (List ℕ)) (w₁ : Val) (is₁ : Is (ShrSlice erased κ₀ u8) r₁ (w₁ ∷ [])) (e₁ : r₁ .now ≡ partOf (piece .now) (turn .from) (turn .to)) (r₃ : Record) (w₃ : Val) (is₃ : Is T.the-row r₃ (w₃ ∷ [])) (e₃ : r₃ ≡ turn .«record») (r : Opened) (w : Val) (near′ : List ℕ) (far′ : List ℕ) (slots′ : List ℕ) (daily′ : List ℕ) (readings′ : List Reading) (is : Is O.the-row r (w ∷ [])) (e : handsBack r (world near′ far′ slots′ daily′ (seen readings′) (curve .now)) ≡ lineOf (view r₃) (r₁ .now) (world (near .now) (far .now) (slots .now) (daily .now) (seen (readings .now)) (curve .now))) (l-near : length near′ ≡ length (near .now)) (l-far : length far′ ≡ length (far .now)) (l-slots : length slots′ ≡ length (slots .now)) (l-daily : length daily′ ≡ length (daily .now)) (l-readings : length readings′ ≡ length (readings .now)) → Sq W (‵ (flft κ₆ q₆) ∷ ‵ (flft κ₅ q₅) ∷ ‵ (flft κ₄ q₄) ∷ ‵ (flft κ₃ q₃) ∷ ‵ (flft κ₂ q₂) ∷ ‵ (flft κ₁ q₁) ∷ ‵ (flft κ₀ q₀) ∷ ‵ (finally R.the-row (readings .name) readings′) ∷ ‵ (finally u32 (daily .name) daily′) ∷ ‵ (finally u16 (slots .name) slots′) ∷ ‵ (finally u32 (far .name) far′) ∷ ‵ (finally u32 (near .name) near′) ∷ ‵ Own-piece ∷ ‵ Own-piece ∷ ‵ Own-curve ∷ ‵ (fat fullShare (sliceTy (tyRef erased mut (pointee (R.the-row .written)))) l₂₁ 0 v-readings) ∷ ‵ (fdies (sliceTy (tyRef erased mut (pointee (R.the-row .written)))) l₂₁) ∷ ‵ (fat fullShare (tyRef erased mut (pointee (R.the-row .written))) l₂₀ 0 (vptr (readings .ptr .0) (readings .ptr .1))) ∷ ‵ (fdies (tyRef erased mut (pointee (R.the-row .written))) l₂₀) ∷ ‵ (fat fullShare (sliceTy (tyRef erased mut (tyInt w32))) l₁₉ 0 v-daily) ∷ ‵ (fdies (sliceTy (tyRef erased mut (tyInt w32))) l₁₉) ∷ ‵ (fat fullShare (tyRef erased mut (tyInt w32)) l₁₈ 0 (vptr (daily .ptr .0) (daily .ptr .1))) ∷ ‵ (fdies (tyRef erased mut (tyInt w32)) l₁₈) ∷ ‵ (fat fullShare (sliceTy (tyRef erased mut (tyInt w16))) l₁₇ 0 v-slots) ∷ ‵ (fdies (sliceTy (tyRef erased mut (tyInt w16))) l₁₇) ∷ ‵ (fat fullShare (tyRef erased mut (tyInt w16)) l₁₆ 0 (vptr (slots .ptr .0) (slots .ptr .1))) ∷ ‵ (fdies (tyRef erased mut (tyInt w16)) l₁₆) ∷ ‵ (fat fullShare (sliceTy (tyRef erased mut (tyInt w32))) l₁₅ 0 v-far) ∷ ‵ (fdies (sliceTy (tyRef erased mut (tyInt w32))) l₁₅) ∷ ‵ (fat fullShare (tyRef erased mut (tyInt w32)) l₁₄ 0 (vptr (far .ptr .0) (far .ptr .1))) ∷ ‵ (fdies (tyRef erased mut (tyInt w32)) l₁₄) ∷ ‵ (fat fullShare (sliceTy (tyRef erased mut (tyInt w32))) l₁₃ 0 v-near) ∷ ‵ (fdies (sliceTy (tyRef erased mut (tyInt w32))) l₁₃) ∷ ‵ (fat fullShare (tyRef erased mut (tyInt w32)) l₁₂ 0 (vptr (near .ptr .0) (near .ptr .1))) ∷ ‵ (fdies (tyRef erased mut (tyInt w32)) l₁₂) ∷ ‵ (fat fullShare tyO l₁₁ 0 w) ∷ ‵ (fdies tyO l₁₁) ∷ ‵ (fat fullShare tyT l₁₀ 0 w₃) ∷ ‵ (fdies tyT l₁₀) ∷ ‵ (fat fullShare (sliceTy (tyRef erased imm (tyInt w8))) l₉ 0 w₁) ∷ ‵ (fdies (sliceTy (tyRef erased imm (tyInt w8))) l₉) ∷ ‵ (fat fullShare (sliceTy (tyRef (named 6) imm (tyInt w64))) l₈ 0 v-curve) ∷ ‵ (fdies (sliceTy (tyRef (named 6) imm (tyInt w64))) l₈) ∷ ‵ (fat fullShare (sliceTy (tyRef (named 5) mut (pointee (R.the-row .written)))) l₇ 0 v-readings) ∷ ‵ (fdies (sliceTy (tyRef (named 5) mut (pointee (R.the-row .written)))) l₇) ∷ ‵ (fat fullShare (sliceTy (tyRef (named 4) mut (tyInt w32))) l₆ 0 v-daily) ∷ ‵ (fdies (sliceTy (tyRef (named 4) mut (tyInt w32))) l₆) ∷ ‵ (fat fullShare (sliceTy (tyRef (named 3) mut (tyInt w16))) l₅ 0 v-slots) ∷ ‵ (fdies (sliceTy (tyRef (named 3) mut (tyInt w16))) l₅) ∷ ‵ (fat fullShare (sliceTy (tyRef (named 2) mut (tyInt w32))) l₄ 0 v-far) ∷ ‵ (fdies (sliceTy (tyRef (named 2) mut (tyInt w32))) l₄) ∷ ‵ (fat fullShare (sliceTy (tyRef (named 1) mut (tyInt w32))) l₃ 0 v-near) ∷ ‵ (fdies (sliceTy (tyRef (named 1) mut (tyInt w32))) l₃) ∷ ‵ (fat fullShare (sliceTy (tyRef (named 0) imm (tyInt w8))) l₂ 0 v-piece) ∷ ‵ (fdies (sliceTy (tyRef (named 0) imm (tyInt w8))) l₂) ∷ ‵ (fat fullShare tyU l₁ 0 (LL.val U.the-type U′.the-laws turn)) ∷ ‵ (fdies tyU l₁) ∷ ‵ (froom tyU l₀ 0) ∷ ‵ (fdies tyU l₀) ∷ []) (runs C Λ (En l₀ l₁ l₂ l₃ l₄ l₅ l₆ l₇ l₈ l₉ l₁₀ l₁₁ l₁₂ l₁₃ l₁₄ l₁₅ l₁₆ l₁₇ l₁₈ l₁₉ l₂₀ l₂₁) pieces.t-14 (atRet (En l₀ l₁ l₂ l₃ l₄ l₅ l₆ l₇ l₈ l₉ l₁₀ l₁₁ l₁₂ l₁₃ l₁₄ l₁₅ l₁₆ l₁₇ l₁₈ l₁₉ l₂₀ l₂₁) Post))
+      after-line : (r₁ : RefT (List ℕ)) (w₁ : Val) (is₁ : Is (ShrSlice erased κ₀ u8) r₁ (w₁ ∷ [])) (e₁ : r₁ .now ≡ partOf (piece .now) (turn .next .from) (turn .next .to)) (r₃ : Record) (w₃ : Val) (is₃ : Is T.the-row r₃ (w₃ ∷ [])) (e₃ : r₃ ≡ turn .«record») (r : Opened) (w : Val) (near′ : List ℕ) (far′ : List ℕ) (slots′ : List ℕ) (daily′ : List ℕ) (readings′ : List Reading) (is : Is O.the-row r (w ∷ [])) (e : handsBack r (world near′ far′ slots′ daily′ (seen readings′) (curve .now)) ≡ lineOf (view r₃) (r₁ .now) (world (near .now) (far .now) (slots .now) (daily .now) (seen (readings .now)) (curve .now))) (l-near : length near′ ≡ length (near .now)) (l-far : length far′ ≡ length (far .now)) (l-slots : length slots′ ≡ length (slots .now)) (l-daily : length daily′ ≡ length (daily .now)) (l-readings : length readings′ ≡ length (readings .now)) → Sq W (‵ (flft κ₆ q₆) ∷ ‵ (flft κ₅ q₅) ∷ ‵ (flft κ₄ q₄) ∷ ‵ (flft κ₃ q₃) ∷ ‵ (flft κ₂ q₂) ∷ ‵ (flft κ₁ q₁) ∷ ‵ (flft κ₀ q₀) ∷ ‵ (finally R.the-row (readings .name) readings′) ∷ ‵ (finally u32 (daily .name) daily′) ∷ ‵ (finally u16 (slots .name) slots′) ∷ ‵ (finally u32 (far .name) far′) ∷ ‵ (finally u32 (near .name) near′) ∷ ‵ Own-piece ∷ ‵ Own-piece ∷ ‵ Own-curve ∷ ‵ (fat fullShare (sliceTy (tyRef erased mut (pointee (R.the-row .written)))) l₂₁ 0 v-readings) ∷ ‵ (fdies (sliceTy (tyRef erased mut (pointee (R.the-row .written)))) l₂₁) ∷ ‵ (fat fullShare (tyRef erased mut (pointee (R.the-row .written))) l₂₀ 0 (vptr (readings .ptr .0) (readings .ptr .1))) ∷ ‵ (fdies (tyRef erased mut (pointee (R.the-row .written))) l₂₀) ∷ ‵ (fat fullShare (sliceTy (tyRef erased mut (tyInt w32))) l₁₉ 0 v-daily) ∷ ‵ (fdies (sliceTy (tyRef erased mut (tyInt w32))) l₁₉) ∷ ‵ (fat fullShare (tyRef erased mut (tyInt w32)) l₁₈ 0 (vptr (daily .ptr .0) (daily .ptr .1))) ∷ ‵ (fdies (tyRef erased mut (tyInt w32)) l₁₈) ∷ ‵ (fat fullShare (sliceTy (tyRef erased mut (tyInt w16))) l₁₇ 0 v-slots) ∷ ‵ (fdies (sliceTy (tyRef erased mut (tyInt w16))) l₁₇) ∷ ‵ (fat fullShare (tyRef erased mut (tyInt w16)) l₁₆ 0 (vptr (slots .ptr .0) (slots .ptr .1))) ∷ ‵ (fdies (tyRef erased mut (tyInt w16)) l₁₆) ∷ ‵ (fat fullShare (sliceTy (tyRef erased mut (tyInt w32))) l₁₅ 0 v-far) ∷ ‵ (fdies (sliceTy (tyRef erased mut (tyInt w32))) l₁₅) ∷ ‵ (fat fullShare (tyRef erased mut (tyInt w32)) l₁₄ 0 (vptr (far .ptr .0) (far .ptr .1))) ∷ ‵ (fdies (tyRef erased mut (tyInt w32)) l₁₄) ∷ ‵ (fat fullShare (sliceTy (tyRef erased mut (tyInt w32))) l₁₃ 0 v-near) ∷ ‵ (fdies (sliceTy (tyRef erased mut (tyInt w32))) l₁₃) ∷ ‵ (fat fullShare (tyRef erased mut (tyInt w32)) l₁₂ 0 (vptr (near .ptr .0) (near .ptr .1))) ∷ ‵ (fdies (tyRef erased mut (tyInt w32)) l₁₂) ∷ ‵ (fat fullShare tyO l₁₁ 0 w) ∷ ‵ (fdies tyO l₁₁) ∷ ‵ (fat fullShare tyT l₁₀ 0 w₃) ∷ ‵ (fdies tyT l₁₀) ∷ ‵ (fat fullShare (sliceTy (tyRef erased imm (tyInt w8))) l₉ 0 w₁) ∷ ‵ (fdies (sliceTy (tyRef erased imm (tyInt w8))) l₉) ∷ ‵ (fat fullShare (sliceTy (tyRef (named 6) imm (tyInt w64))) l₈ 0 v-curve) ∷ ‵ (fdies (sliceTy (tyRef (named 6) imm (tyInt w64))) l₈) ∷ ‵ (fat fullShare (sliceTy (tyRef (named 5) mut (pointee (R.the-row .written)))) l₇ 0 v-readings) ∷ ‵ (fdies (sliceTy (tyRef (named 5) mut (pointee (R.the-row .written)))) l₇) ∷ ‵ (fat fullShare (sliceTy (tyRef (named 4) mut (tyInt w32))) l₆ 0 v-daily) ∷ ‵ (fdies (sliceTy (tyRef (named 4) mut (tyInt w32))) l₆) ∷ ‵ (fat fullShare (sliceTy (tyRef (named 3) mut (tyInt w16))) l₅ 0 v-slots) ∷ ‵ (fdies (sliceTy (tyRef (named 3) mut (tyInt w16))) l₅) ∷ ‵ (fat fullShare (sliceTy (tyRef (named 2) mut (tyInt w32))) l₄ 0 v-far) ∷ ‵ (fdies (sliceTy (tyRef (named 2) mut (tyInt w32))) l₄) ∷ ‵ (fat fullShare (sliceTy (tyRef (named 1) mut (tyInt w32))) l₃ 0 v-near) ∷ ‵ (fdies (sliceTy (tyRef (named 1) mut (tyInt w32))) l₃) ∷ ‵ (fat fullShare (sliceTy (tyRef (named 0) imm (tyInt w8))) l₂ 0 v-piece) ∷ ‵ (fdies (sliceTy (tyRef (named 0) imm (tyInt w8))) l₂) ∷ ‵ (fat fullShare tyU l₁ 0 (LL.val U.the-type U′.the-laws turn)) ∷ ‵ (fdies tyU l₁) ∷ ‵ (froom tyU l₀ 0) ∷ ‵ (fdies tyU l₀) ∷ []) (runs C Λ (En l₀ l₁ l₂ l₃ l₄ l₅ l₆ l₇ l₈ l₉ l₁₀ l₁₁ l₁₂ l₁₃ l₁₄ l₁₅ l₁₆ l₁₇ l₁₈ l₁₉ l₂₀ l₂₁) pieces.t-14 (atRet (En l₀ l₁ l₂ l₃ l₄ l₅ l₆ l₇ l₈ l₉ l₁₀ l₁₁ l₁₂ l₁₃ l₁₄ l₁₅ l₁₆ l₁₇ l₁₈ l₁₉ l₂₀ l₂₁) Post))
       after-line r₁ w₁ is₁ e₁ r₃ w₃ is₃ e₃ r w near′ far′ slots′ daily′ readings′ is e l-near l-far l-slots l-daily l-readings =
           -- `turn_after`
           move ! (6 ∷ 13 ∷ []) $ group ! 2 $ use1 W (raw (TurnAfter 𝓤 H A mem run .pre (to-turn-after r w))) (goes-turn-after r w is) $
           calls-at ! fm (TurnAfter 𝓤 H A mem run) known-turn-after (to-turn-after r w) (and-then ! (load ! (from ! (stop !)) (look ! 34 refl)) (and-then ! (load ! (from ! (stop !)) (look ! 54 refl)) (and-then ! (load ! (from ! (stop !)) (look ! 52 refl)) (no-more !)))) (λ w₂.
           use1 W (later (some (λ (r₂ : Turn). ((‵ (flft κ₀ q₀) ⊛ ‵ ftrue) ⊛ ‵ (U.the-row .own r₂ (w₂ ∷ []))) ⊛ raw (ensured 𝓤 H A turn-after.ended (turn-after.clauses 𝓤 H A mem run) (κ₀, tt) (r, (turn, (piece, tt))) tt r₂)))) (id⊢ 𝓤 _) $ await ! tt $ pick ! (λ r₂.
-          split ! $ move ! (1 ∷ []) $ use1 W (some (λ (ms₂ : Unit {0} × (Unit {0} × (Unit {0} × Unit {0}))). ‵ (lasts turn-after.ended (κ₀, tt) (r, (turn, (piece, tt))) ms₂) ⊛ raw (fact 𝓤 (r₂ ≡ turnOf r (piece .now) (turn .past))))) (id⊢ 𝓤 _) $ pick ! (λ ms₂.
-          split ! $ move ! (1 ∷ []) $ heard ! (r₂ ≡ turnOf r (piece .now) (turn .past)) (λ e₂. fsplit ! $ drop ! $ fsplit ! $ drop ! $ fsplit ! $ drop ! $
+          split ! $ move ! (1 ∷ []) $ use1 W (some (λ (ms₂ : Unit {0} × (Unit {0} × (Unit {0} × Unit {0}))). ‵ (lasts turn-after.ended (κ₀, tt) (r, (turn, (piece, tt))) ms₂) ⊛ raw (fact 𝓤 (r₂ ≡ turnOf r (piece .now) (turn .next .past))))) (id⊢ 𝓤 _) $ pick ! (λ ms₂.
+          split ! $ move ! (1 ∷ []) $ heard ! (r₂ ≡ turnOf r (piece .now) (turn .next .past)) (λ e₂. fsplit ! $ drop ! $ fsplit ! $ drop ! $ fsplit ! $ drop ! $
           drop ! $ split ! $ move ! (1 ∷ []) $ peeks ! U.the-row (Is (U.the-row)) (shows 𝓤 H A (U.the-row)) r₂ (w₂ ∷ []) (λ is₂. land ! (from ! (stop !)) (init ! 57 refl (LL.lawful U.the-type U′.the-laws 𝓤 H A W .typed r₂ _ is₂ .0)) $ drop ! $ split ! $ move ! (1 ∷ []) $ drop ! $
           after-turn-after r₁ w₁ is₁ e₁ r₃ w₃ is₃ e₃ r w near′ far′ slots′ daily′ readings′ is e l-near l-far l-slots l-daily l-readings r₂ w₂ is₂ e₂)))))
 
-      after-record-of : (r₁ : RefT (List ℕ)) (w₁ : Val) (is₁ : Is (ShrSlice erased κ₀ u8) r₁ (w₁ ∷ [])) (e₁ : r₁ .now ≡ partOf (piece .now) (turn .from) (turn .to)) (r₃ : Record) (w₃ : Val) (is₃ : Is T.the-row r₃ (w₃ ∷ [])) (e₃ : r₃ ≡ turn .«record») → Sq W (‵ (flft κ₀ q₀) ∷ ‵ (ShrSlice erased κ₀ u8 .own r₁ (w₁ ∷ [])) ∷ ‵ (flft κ₁ q₁) ∷ ‵ (flft κ₂ q₂) ∷ ‵ (flft κ₃ q₃) ∷ ‵ (flft κ₄ q₄) ∷ ‵ (flft κ₅ q₅) ∷ ‵ (flft κ₆ q₆) ∷ ‵ Own-piece ∷ ‵ Own-piece ∷ ‵ Own-near ∷ ‵ Own-far ∷ ‵ Own-slots ∷ ‵ Own-daily ∷ ‵ Own-readings ∷ ‵ Own-curve ∷ ‵ Own-curve ∷ ‵ (froom (sliceTy (tyRef erased mut (pointee (R.the-row .written)))) l₂₁ 0) ∷ ‵ (fdies (sliceTy (tyRef erased mut (pointee (R.the-row .written)))) l₂₁) ∷ ‵ (froom (tyRef erased mut (pointee (R.the-row .written))) l₂₀ 0) ∷ ‵ (fdies (tyRef erased mut (pointee (R.the-row .written))) l₂₀) ∷ ‵ (froom (sliceTy (tyRef erased mut (tyInt w32))) l₁₉ 0) ∷ ‵ (fdies (sliceTy (tyRef erased mut (tyInt w32))) l₁₉) ∷ ‵ (froom (tyRef erased mut (tyInt w32)) l₁₈ 0) ∷ ‵ (fdies (tyRef erased mut (tyInt w32)) l₁₈) ∷ ‵ (froom (sliceTy (tyRef erased mut (tyInt w16))) l₁₇ 0) ∷ ‵ (fdies (sliceTy (tyRef erased mut (tyInt w16))) l₁₇) ∷ ‵ (froom (tyRef erased mut (tyInt w16)) l₁₆ 0) ∷ ‵ (fdies (tyRef erased mut (tyInt w16)) l₁₆) ∷ ‵ (froom (sliceTy (tyRef erased mut (tyInt w32))) l₁₅ 0) ∷ ‵ (fdies (sliceTy (tyRef erased mut (tyInt w32))) l₁₅) ∷ ‵ (froom (tyRef erased mut (tyInt w32)) l₁₄ 0) ∷ ‵ (fdies (tyRef erased mut (tyInt w32)) l₁₄) ∷ ‵ (froom (sliceTy (tyRef erased mut (tyInt w32))) l₁₃ 0) ∷ ‵ (fdies (sliceTy (tyRef erased mut (tyInt w32))) l₁₃) ∷ ‵ (froom (tyRef erased mut (tyInt w32)) l₁₂ 0) ∷ ‵ (fdies (tyRef erased mut (tyInt w32)) l₁₂) ∷ ‵ (froom tyO l₁₁ 0) ∷ ‵ (fdies tyO l₁₁) ∷ ‵ (fat fullShare tyT l₁₀ 0 w₃) ∷ ‵ (fdies tyT l₁₀) ∷ ‵ (fat fullShare (sliceTy (tyRef erased imm (tyInt w8))) l₉ 0 w₁) ∷ ‵ (fdies (sliceTy (tyRef erased imm (tyInt w8))) l₉) ∷ ‵ (fat fullShare (sliceTy (tyRef (named 6) imm (tyInt w64))) l₈ 0 v-curve) ∷ ‵ (fdies (sliceTy (tyRef (named 6) imm (tyInt w64))) l₈) ∷ ‵ (fat fullShare (sliceTy (tyRef (named 5) mut (pointee (R.the-row .written)))) l₇ 0 v-readings) ∷ ‵ (fdies (sliceTy (tyRef (named 5) mut (pointee (R.the-row .written)))) l₇) ∷ ‵ (fat fullShare (sliceTy (tyRef (named 4) mut (tyInt w32))) l₆ 0 v-daily) ∷ ‵ (fdies (sliceTy (tyRef (named 4) mut (tyInt w32))) l₆) ∷ ‵ (fat fullShare (sliceTy (tyRef (named 3) mut (tyInt w16))) l₅ 0 v-slots) ∷ ‵ (fdies (sliceTy (tyRef (named 3) mut (tyInt w16))) l₅) ∷ ‵ (fat fullShare (sliceTy (tyRef (named 2) mut (tyInt w32))) l₄ 0 v-far) ∷ ‵ (fdies (sliceTy (tyRef (named 2) mut (tyInt w32))) l₄) ∷ ‵ (fat fullShare (sliceTy (tyRef (named 1) mut (tyInt w32))) l₃ 0 v-near) ∷ ‵ (fdies (sliceTy (tyRef (named 1) mut (tyInt w32))) l₃) ∷ ‵ (fat fullShare (sliceTy (tyRef (named 0) imm (tyInt w8))) l₂ 0 v-piece) ∷ ‵ (fdies (sliceTy (tyRef (named 0) imm (tyInt w8))) l₂) ∷ ‵ (fat fullShare tyU l₁ 0 (LL.val U.the-type U′.the-laws turn)) ∷ ‵ (fdies tyU l₁) ∷ ‵ (froom tyU l₀ 0) ∷ ‵ (fdies tyU l₀) ∷ []) (runs C Λ (En l₀ l₁ l₂ l₃ l₄ l₅ l₆ l₇ l₈ l₉ l₁₀ l₁₁ l₁₂ l₁₃ l₁₄ l₁₅ l₁₆ l₁₇ l₁₈ l₁₉ l₂₀ l₂₁) pieces.t-3 (atRet (En l₀ l₁ l₂ l₃ l₄ l₅ l₆ l₇ l₈ l₉ l₁₀ l₁₁ l₁₂ l₁₃ l₁₄ l₁₅ l₁₆ l₁₇ l₁₈ l₁₉ l₂₀ l₂₁) Post))
+      after-record-of : (r₁ : RefT (List ℕ)) (w₁ : Val) (is₁ : Is (ShrSlice erased κ₀ u8) r₁ (w₁ ∷ [])) (e₁ : r₁ .now ≡ partOf (piece .now) (turn .next .from) (turn .next .to)) (r₃ : Record) (w₃ : Val) (is₃ : Is T.the-row r₃ (w₃ ∷ [])) (e₃ : r₃ ≡ turn .«record») → Sq W (‵ (flft κ₀ q₀) ∷ ‵ (ShrSlice erased κ₀ u8 .own r₁ (w₁ ∷ [])) ∷ ‵ (flft κ₁ q₁) ∷ ‵ (flft κ₂ q₂) ∷ ‵ (flft κ₃ q₃) ∷ ‵ (flft κ₄ q₄) ∷ ‵ (flft κ₅ q₅) ∷ ‵ (flft κ₆ q₆) ∷ ‵ Own-piece ∷ ‵ Own-piece ∷ ‵ Own-near ∷ ‵ Own-far ∷ ‵ Own-slots ∷ ‵ Own-daily ∷ ‵ Own-readings ∷ ‵ Own-curve ∷ ‵ Own-curve ∷ ‵ (froom (sliceTy (tyRef erased mut (pointee (R.the-row .written)))) l₂₁ 0) ∷ ‵ (fdies (sliceTy (tyRef erased mut (pointee (R.the-row .written)))) l₂₁) ∷ ‵ (froom (tyRef erased mut (pointee (R.the-row .written))) l₂₀ 0) ∷ ‵ (fdies (tyRef erased mut (pointee (R.the-row .written))) l₂₀) ∷ ‵ (froom (sliceTy (tyRef erased mut (tyInt w32))) l₁₉ 0) ∷ ‵ (fdies (sliceTy (tyRef erased mut (tyInt w32))) l₁₉) ∷ ‵ (froom (tyRef erased mut (tyInt w32)) l₁₈ 0) ∷ ‵ (fdies (tyRef erased mut (tyInt w32)) l₁₈) ∷ ‵ (froom (sliceTy (tyRef erased mut (tyInt w16))) l₁₇ 0) ∷ ‵ (fdies (sliceTy (tyRef erased mut (tyInt w16))) l₁₇) ∷ ‵ (froom (tyRef erased mut (tyInt w16)) l₁₆ 0) ∷ ‵ (fdies (tyRef erased mut (tyInt w16)) l₁₆) ∷ ‵ (froom (sliceTy (tyRef erased mut (tyInt w32))) l₁₅ 0) ∷ ‵ (fdies (sliceTy (tyRef erased mut (tyInt w32))) l₁₅) ∷ ‵ (froom (tyRef erased mut (tyInt w32)) l₁₄ 0) ∷ ‵ (fdies (tyRef erased mut (tyInt w32)) l₁₄) ∷ ‵ (froom (sliceTy (tyRef erased mut (tyInt w32))) l₁₃ 0) ∷ ‵ (fdies (sliceTy (tyRef erased mut (tyInt w32))) l₁₃) ∷ ‵ (froom (tyRef erased mut (tyInt w32)) l₁₂ 0) ∷ ‵ (fdies (tyRef erased mut (tyInt w32)) l₁₂) ∷ ‵ (froom tyO l₁₁ 0) ∷ ‵ (fdies tyO l₁₁) ∷ ‵ (fat fullShare tyT l₁₀ 0 w₃) ∷ ‵ (fdies tyT l₁₀) ∷ ‵ (fat fullShare (sliceTy (tyRef erased imm (tyInt w8))) l₉ 0 w₁) ∷ ‵ (fdies (sliceTy (tyRef erased imm (tyInt w8))) l₉) ∷ ‵ (fat fullShare (sliceTy (tyRef (named 6) imm (tyInt w64))) l₈ 0 v-curve) ∷ ‵ (fdies (sliceTy (tyRef (named 6) imm (tyInt w64))) l₈) ∷ ‵ (fat fullShare (sliceTy (tyRef (named 5) mut (pointee (R.the-row .written)))) l₇ 0 v-readings) ∷ ‵ (fdies (sliceTy (tyRef (named 5) mut (pointee (R.the-row .written)))) l₇) ∷ ‵ (fat fullShare (sliceTy (tyRef (named 4) mut (tyInt w32))) l₆ 0 v-daily) ∷ ‵ (fdies (sliceTy (tyRef (named 4) mut (tyInt w32))) l₆) ∷ ‵ (fat fullShare (sliceTy (tyRef (named 3) mut (tyInt w16))) l₅ 0 v-slots) ∷ ‵ (fdies (sliceTy (tyRef (named 3) mut (tyInt w16))) l₅) ∷ ‵ (fat fullShare (sliceTy (tyRef (named 2) mut (tyInt w32))) l₄ 0 v-far) ∷ ‵ (fdies (sliceTy (tyRef (named 2) mut (tyInt w32))) l₄) ∷ ‵ (fat fullShare (sliceTy (tyRef (named 1) mut (tyInt w32))) l₃ 0 v-near) ∷ ‵ (fdies (sliceTy (tyRef (named 1) mut (tyInt w32))) l₃) ∷ ‵ (fat fullShare (sliceTy (tyRef (named 0) imm (tyInt w8))) l₂ 0 v-piece) ∷ ‵ (fdies (sliceTy (tyRef (named 0) imm (tyInt w8))) l₂) ∷ ‵ (fat fullShare tyU l₁ 0 (LL.val U.the-type U′.the-laws turn)) ∷ ‵ (fdies tyU l₁) ∷ ‵ (froom tyU l₀ 0) ∷ ‵ (fdies tyU l₀) ∷ []) (runs C Λ (En l₀ l₁ l₂ l₃ l₄ l₅ l₆ l₇ l₈ l₉ l₁₀ l₁₁ l₁₂ l₁₃ l₁₄ l₁₅ l₁₆ l₁₇ l₁₈ l₁₉ l₂₀ l₂₁) pieces.t-3 (atRet (En l₀ l₁ l₂ l₃ l₄ l₅ l₆ l₇ l₈ l₉ l₁₀ l₁₁ l₁₂ l₁₃ l₁₄ l₁₅ l₁₆ l₁₇ l₁₈ l₁₉ l₂₀ l₂₁) Post))
       after-record-of r₁ w₁ is₁ e₁ r₃ w₃ is₃ e₃ =
           assigns ! (addr ! (from ! (fld ! refl (hop ! (look-in ! 53 (sub ! 0 refl (whole !))) (stop !))))) (from ! (stop !)) (init ! 35 refl (tt, tt)) $ assigns ! (agg ! (and-then ! (load ! (from ! (stop !)) (look ! 35 refl)) (and-then ! (load ! (from ! (fld ! refl (stop !))) (look-in ! 53 (sub ! 1 refl (whole !)))) (no-more !)))) (from ! (stop !)) (init ! 33 refl (tt, (tt, (record { fits = room-near .0 }, tt)))) $ assigns ! (addr ! (from ! (fld ! refl (hop ! (look-in ! 51 (sub ! 0 refl (whole !))) (stop !))))) (from ! (stop !)) (init ! 31 refl (tt, tt)) $ assigns ! (agg ! (and-then ! (load ! (from ! (stop !)) (look ! 31 refl)) (and-then ! (load ! (from ! (fld ! refl (stop !))) (look-in ! 51 (sub ! 1 refl (whole !)))) (no-more !)))) (from ! (stop !)) (init ! 29 refl (tt, (tt, (record { fits = room-far .0 }, tt)))) $ assigns ! (addr ! (from ! (fld ! refl (hop ! (look-in ! 49 (sub ! 0 refl (whole !))) (stop !))))) (from ! (stop !)) (init ! 27 refl (tt, tt)) $ assigns ! (agg ! (and-then ! (load ! (from ! (stop !)) (look ! 27 refl)) (and-then ! (load ! (from ! (fld ! refl (stop !))) (look-in ! 49 (sub ! 1 refl (whole !)))) (no-more !)))) (from ! (stop !)) (init ! 25 refl (tt, (tt, (record { fits = room-slots .0 }, tt)))) $ assigns ! (addr ! (from ! (fld ! refl (hop ! (look-in ! 47 (sub ! 0 refl (whole !))) (stop !))))) (from ! (stop !)) (init ! 23 refl (tt, tt)) $ assigns ! (agg ! (and-then ! (load ! (from ! (stop !)) (look ! 23 refl)) (and-then ! (load ! (from ! (fld ! refl (stop !))) (look-in ! 47 (sub ! 1 refl (whole !)))) (no-more !)))) (from ! (stop !)) (init ! 21 refl (tt, (tt, (record { fits = room-daily .0 }, tt)))) $ assigns ! (addr ! (from ! (fld ! refl (hop ! (look-in ! 45 (sub ! 0 refl (whole !))) (stop !))))) (from ! (stop !)) (init ! 19 refl (tt, tt)) $ assigns ! (agg ! (and-then ! (load ! (from ! (stop !)) (look ! 19 refl)) (and-then ! (load ! (from ! (fld ! refl (stop !))) (look-in ! 45 (sub ! 1 refl (whole !)))) (no-more !)))) (from ! (stop !)) (init ! 17 refl (tt, (tt, (record { fits = room-readings .0 }, tt)))) $
           -- `Record::line`
@@ -244,7 +244,7 @@ module _ {M : Type 1} (𝓤 : URA M) (H : Heap 𝓤) (A : Atoms 𝓤) (W : Given
           drop ! $ move ! (5 ∷ []) $ split ! $ move ! (1 ∷ []) $ peeks ! O.the-row (Is (O.the-row)) (shows 𝓤 H A (O.the-row)) r (w ∷ []) (λ is. land ! (from ! (stop !)) (init ! 30 refl (LL.lawful O.the-type O′.the-laws 𝓤 H A W .typed r _ is .0)) $ drop ! $ split ! $ move ! (1 ∷ []) $ split ! $ move ! (1 ∷ []) $ split ! $ move ! (1 ∷ []) $ split ! $ move ! (1 ∷ []) $ split ! $ move ! (1 ∷ []) $ split ! $ move ! (1 ∷ []) $ split ! $ move ! (1 ∷ []) $ drop ! $
           after-line r₁ w₁ is₁ e₁ r₃ w₃ is₃ e₃ r w (ms .1 .1 .0) (ms .1 .1 .1 .0) (ms .1 .1 .1 .1 .0) (ms .1 .1 .1 .1 .1 .0) (ms .1 .1 .1 .1 .1 .1 .0) is e l-near l-far l-slots l-daily l-readings))))))))))
 
-      after-line-of : (r₁ : RefT (List ℕ)) (w₁ : Val) (is₁ : Is (ShrSlice erased κ₀ u8) r₁ (w₁ ∷ [])) (e₁ : r₁ .now ≡ partOf (piece .now) (turn .from) (turn .to)) → Sq W (‵ (flft κ₀ q₀) ∷ ‵ (ShrSlice erased κ₀ u8 .own r₁ (w₁ ∷ [])) ∷ ‵ (flft κ₁ q₁) ∷ ‵ (flft κ₂ q₂) ∷ ‵ (flft κ₃ q₃) ∷ ‵ (flft κ₄ q₄) ∷ ‵ (flft κ₅ q₅) ∷ ‵ (flft κ₆ q₆) ∷ ‵ Own-piece ∷ ‵ Own-piece ∷ ‵ Own-near ∷ ‵ Own-far ∷ ‵ Own-slots ∷ ‵ Own-daily ∷ ‵ Own-readings ∷ ‵ Own-curve ∷ ‵ Own-curve ∷ ‵ (froom (sliceTy (tyRef erased mut (pointee (R.the-row .written)))) l₂₁ 0) ∷ ‵ (fdies (sliceTy (tyRef erased mut (pointee (R.the-row .written)))) l₂₁) ∷ ‵ (froom (tyRef erased mut (pointee (R.the-row .written))) l₂₀ 0) ∷ ‵ (fdies (tyRef erased mut (pointee (R.the-row .written))) l₂₀) ∷ ‵ (froom (sliceTy (tyRef erased mut (tyInt w32))) l₁₉ 0) ∷ ‵ (fdies (sliceTy (tyRef erased mut (tyInt w32))) l₁₉) ∷ ‵ (froom (tyRef erased mut (tyInt w32)) l₁₈ 0) ∷ ‵ (fdies (tyRef erased mut (tyInt w32)) l₁₈) ∷ ‵ (froom (sliceTy (tyRef erased mut (tyInt w16))) l₁₇ 0) ∷ ‵ (fdies (sliceTy (tyRef erased mut (tyInt w16))) l₁₇) ∷ ‵ (froom (tyRef erased mut (tyInt w16)) l₁₆ 0) ∷ ‵ (fdies (tyRef erased mut (tyInt w16)) l₁₆) ∷ ‵ (froom (sliceTy (tyRef erased mut (tyInt w32))) l₁₅ 0) ∷ ‵ (fdies (sliceTy (tyRef erased mut (tyInt w32))) l₁₅) ∷ ‵ (froom (tyRef erased mut (tyInt w32)) l₁₄ 0) ∷ ‵ (fdies (tyRef erased mut (tyInt w32)) l₁₄) ∷ ‵ (froom (sliceTy (tyRef erased mut (tyInt w32))) l₁₃ 0) ∷ ‵ (fdies (sliceTy (tyRef erased mut (tyInt w32))) l₁₃) ∷ ‵ (froom (tyRef erased mut (tyInt w32)) l₁₂ 0) ∷ ‵ (fdies (tyRef erased mut (tyInt w32)) l₁₂) ∷ ‵ (froom tyO l₁₁ 0) ∷ ‵ (fdies tyO l₁₁) ∷ ‵ (froom tyT l₁₀ 0) ∷ ‵ (fdies tyT l₁₀) ∷ ‵ (fat fullShare (sliceTy (tyRef erased imm (tyInt w8))) l₉ 0 w₁) ∷ ‵ (fdies (sliceTy (tyRef erased imm (tyInt w8))) l₉) ∷ ‵ (fat fullShare (sliceTy (tyRef (named 6) imm (tyInt w64))) l₈ 0 v-curve) ∷ ‵ (fdies (sliceTy (tyRef (named 6) imm (tyInt w64))) l₈) ∷ ‵ (fat fullShare (sliceTy (tyRef (named 5) mut (pointee (R.the-row .written)))) l₇ 0 v-readings) ∷ ‵ (fdies (sliceTy (tyRef (named 5) mut (pointee (R.the-row .written)))) l₇) ∷ ‵ (fat fullShare (sliceTy (tyRef (named 4) mut (tyInt w32))) l₆ 0 v-daily) ∷ ‵ (fdies (sliceTy (tyRef (named 4) mut (tyInt w32))) l₆) ∷ ‵ (fat fullShare (sliceTy (tyRef (named 3) mut (tyInt w16))) l₅ 0 v-slots) ∷ ‵ (fdies (sliceTy (tyRef (named 3) mut (tyInt w16))) l₅) ∷ ‵ (fat fullShare (sliceTy (tyRef (named 2) mut (tyInt w32))) l₄ 0 v-far) ∷ ‵ (fdies (sliceTy (tyRef (named 2) mut (tyInt w32))) l₄) ∷ ‵ (fat fullShare (sliceTy (tyRef (named 1) mut (tyInt w32))) l₃ 0 v-near) ∷ ‵ (fdies (sliceTy (tyRef (named 1) mut (tyInt w32))) l₃) ∷ ‵ (fat fullShare (sliceTy (tyRef (named 0) imm (tyInt w8))) l₂ 0 v-piece) ∷ ‵ (fdies (sliceTy (tyRef (named 0) imm (tyInt w8))) l₂) ∷ ‵ (fat fullShare tyU l₁ 0 (LL.val U.the-type U′.the-laws turn)) ∷ ‵ (fdies tyU l₁) ∷ ‵ (froom tyU l₀ 0) ∷ ‵ (fdies tyU l₀) ∷ []) (runs C Λ (En l₀ l₁ l₂ l₃ l₄ l₅ l₆ l₇ l₈ l₉ l₁₀ l₁₁ l₁₂ l₁₃ l₁₄ l₁₅ l₁₆ l₁₇ l₁₈ l₁₉ l₂₀ l₂₁) pieces.t-2 (atRet (En l₀ l₁ l₂ l₃ l₄ l₅ l₆ l₇ l₈ l₉ l₁₀ l₁₁ l₁₂ l₁₃ l₁₄ l₁₅ l₁₆ l₁₇ l₁₈ l₁₉ l₂₀ l₂₁) Post))
+      after-line-of : (r₁ : RefT (List ℕ)) (w₁ : Val) (is₁ : Is (ShrSlice erased κ₀ u8) r₁ (w₁ ∷ [])) (e₁ : r₁ .now ≡ partOf (piece .now) (turn .next .from) (turn .next .to)) → Sq W (‵ (flft κ₀ q₀) ∷ ‵ (ShrSlice erased κ₀ u8 .own r₁ (w₁ ∷ [])) ∷ ‵ (flft κ₁ q₁) ∷ ‵ (flft κ₂ q₂) ∷ ‵ (flft κ₃ q₃) ∷ ‵ (flft κ₄ q₄) ∷ ‵ (flft κ₅ q₅) ∷ ‵ (flft κ₆ q₆) ∷ ‵ Own-piece ∷ ‵ Own-piece ∷ ‵ Own-near ∷ ‵ Own-far ∷ ‵ Own-slots ∷ ‵ Own-daily ∷ ‵ Own-readings ∷ ‵ Own-curve ∷ ‵ Own-curve ∷ ‵ (froom (sliceTy (tyRef erased mut (pointee (R.the-row .written)))) l₂₁ 0) ∷ ‵ (fdies (sliceTy (tyRef erased mut (pointee (R.the-row .written)))) l₂₁) ∷ ‵ (froom (tyRef erased mut (pointee (R.the-row .written))) l₂₀ 0) ∷ ‵ (fdies (tyRef erased mut (pointee (R.the-row .written))) l₂₀) ∷ ‵ (froom (sliceTy (tyRef erased mut (tyInt w32))) l₁₉ 0) ∷ ‵ (fdies (sliceTy (tyRef erased mut (tyInt w32))) l₁₉) ∷ ‵ (froom (tyRef erased mut (tyInt w32)) l₁₈ 0) ∷ ‵ (fdies (tyRef erased mut (tyInt w32)) l₁₈) ∷ ‵ (froom (sliceTy (tyRef erased mut (tyInt w16))) l₁₇ 0) ∷ ‵ (fdies (sliceTy (tyRef erased mut (tyInt w16))) l₁₇) ∷ ‵ (froom (tyRef erased mut (tyInt w16)) l₁₆ 0) ∷ ‵ (fdies (tyRef erased mut (tyInt w16)) l₁₆) ∷ ‵ (froom (sliceTy (tyRef erased mut (tyInt w32))) l₁₅ 0) ∷ ‵ (fdies (sliceTy (tyRef erased mut (tyInt w32))) l₁₅) ∷ ‵ (froom (tyRef erased mut (tyInt w32)) l₁₄ 0) ∷ ‵ (fdies (tyRef erased mut (tyInt w32)) l₁₄) ∷ ‵ (froom (sliceTy (tyRef erased mut (tyInt w32))) l₁₃ 0) ∷ ‵ (fdies (sliceTy (tyRef erased mut (tyInt w32))) l₁₃) ∷ ‵ (froom (tyRef erased mut (tyInt w32)) l₁₂ 0) ∷ ‵ (fdies (tyRef erased mut (tyInt w32)) l₁₂) ∷ ‵ (froom tyO l₁₁ 0) ∷ ‵ (fdies tyO l₁₁) ∷ ‵ (froom tyT l₁₀ 0) ∷ ‵ (fdies tyT l₁₀) ∷ ‵ (fat fullShare (sliceTy (tyRef erased imm (tyInt w8))) l₉ 0 w₁) ∷ ‵ (fdies (sliceTy (tyRef erased imm (tyInt w8))) l₉) ∷ ‵ (fat fullShare (sliceTy (tyRef (named 6) imm (tyInt w64))) l₈ 0 v-curve) ∷ ‵ (fdies (sliceTy (tyRef (named 6) imm (tyInt w64))) l₈) ∷ ‵ (fat fullShare (sliceTy (tyRef (named 5) mut (pointee (R.the-row .written)))) l₇ 0 v-readings) ∷ ‵ (fdies (sliceTy (tyRef (named 5) mut (pointee (R.the-row .written)))) l₇) ∷ ‵ (fat fullShare (sliceTy (tyRef (named 4) mut (tyInt w32))) l₆ 0 v-daily) ∷ ‵ (fdies (sliceTy (tyRef (named 4) mut (tyInt w32))) l₆) ∷ ‵ (fat fullShare (sliceTy (tyRef (named 3) mut (tyInt w16))) l₅ 0 v-slots) ∷ ‵ (fdies (sliceTy (tyRef (named 3) mut (tyInt w16))) l₅) ∷ ‵ (fat fullShare (sliceTy (tyRef (named 2) mut (tyInt w32))) l₄ 0 v-far) ∷ ‵ (fdies (sliceTy (tyRef (named 2) mut (tyInt w32))) l₄) ∷ ‵ (fat fullShare (sliceTy (tyRef (named 1) mut (tyInt w32))) l₃ 0 v-near) ∷ ‵ (fdies (sliceTy (tyRef (named 1) mut (tyInt w32))) l₃) ∷ ‵ (fat fullShare (sliceTy (tyRef (named 0) imm (tyInt w8))) l₂ 0 v-piece) ∷ ‵ (fdies (sliceTy (tyRef (named 0) imm (tyInt w8))) l₂) ∷ ‵ (fat fullShare tyU l₁ 0 (LL.val U.the-type U′.the-laws turn)) ∷ ‵ (fdies tyU l₁) ∷ ‵ (froom tyU l₀ 0) ∷ ‵ (fdies tyU l₀) ∷ []) (runs C Λ (En l₀ l₁ l₂ l₃ l₄ l₅ l₆ l₇ l₈ l₉ l₁₀ l₁₁ l₁₂ l₁₃ l₁₄ l₁₅ l₁₆ l₁₇ l₁₈ l₁₉ l₂₀ l₂₁) pieces.t-2 (atRet (En l₀ l₁ l₂ l₃ l₄ l₅ l₆ l₇ l₈ l₉ l₁₀ l₁₁ l₁₂ l₁₃ l₁₄ l₁₅ l₁₆ l₁₇ l₁₈ l₁₉ l₂₀ l₂₁) Post))
       after-line-of r₁ w₁ is₁ e₁ =
           -- `record_of`
           nothing ! $ use1 W (raw (RecordOf 𝓤 H A mem run .pre to-record-of)) (goes-record-of) $
@@ -261,8 +261,8 @@ module _ {M : Type 1} (𝓤 : URA M) (H : Heap 𝓤) (A : Atoms 𝓤) (W : Given
           move ! (0 ∷ 8 ∷ []) $ group ! 2 $ use1 W (raw (LineOf 𝓤 H A mem run .pre to-line-of)) (goes-line-of) $
           calls-at ! fm (LineOf 𝓤 H A mem run) known-line-of to-line-of (and-then ! (load ! (from ! (stop !)) (look ! 56 refl)) (and-then ! (load ! (from ! (stop !)) (look ! 54 refl)) (no-more !))) (λ w₁.
           use1 W (later (some (λ (r₁ : RefT (List ℕ)). ((‵ (flft κ₀ q₀) ⊛ ‵ ftrue) ⊛ ‵ (ShrSlice erased κ₀ u8 .own r₁ (w₁ ∷ []))) ⊛ raw (ensured 𝓤 H A line-of.ended (line-of.clauses 𝓤 H A mem run) (κ₀, tt) (turn, (piece, tt)) tt r₁)))) (id⊢ 𝓤 _) $ await ! tt $ pick ! (λ r₁.
-          split ! $ move ! (1 ∷ []) $ use1 W (some (λ (ms₁ : Unit {0} × (Unit {0} × Unit {0})). ‵ (lasts line-of.ended (κ₀, tt) (turn, (piece, tt)) ms₁) ⊛ raw (fact 𝓤 (r₁ .now ≡ partOf (piece .now) (turn .from) (turn .to))))) (id⊢ 𝓤 _) $ pick ! (λ ms₁.
-          split ! $ move ! (1 ∷ []) $ heard ! (r₁ .now ≡ partOf (piece .now) (turn .from) (turn .to)) (λ e₁. fsplit ! $ drop ! $ fsplit ! $ drop ! $
+          split ! $ move ! (1 ∷ []) $ use1 W (some (λ (ms₁ : Unit {0} × (Unit {0} × Unit {0})). ‵ (lasts line-of.ended (κ₀, tt) (turn, (piece, tt)) ms₁) ⊛ raw (fact 𝓤 (r₁ .now ≡ partOf (piece .now) (turn .next .from) (turn .next .to))))) (id⊢ 𝓤 _) $ pick ! (λ ms₁.
+          split ! $ move ! (1 ∷ []) $ heard ! (r₁ .now ≡ partOf (piece .now) (turn .next .from) (turn .next .to)) (λ e₁. fsplit ! $ drop ! $ fsplit ! $ drop ! $
           drop ! $ split ! $ move ! (1 ∷ []) $ peeks ! (ShrSlice erased κ₀ u8) (Is (ShrSlice erased κ₀ u8)) (shows 𝓤 H A (ShrSlice erased κ₀ u8)) r₁ (w₁ ∷ []) (λ is₁. land ! (from ! (stop !)) (init ! 41 refl (shr-slice-lawful 𝓤 H A W erased κ₀ u8 .typed r₁ _ is₁ .0)) $ move ! (1 ∷ []) $ split ! $ move ! (1 ∷ []) $ drop ! $
           after-line-of r₁ w₁ is₁ e₁)))))
 

@@ -1,7 +1,7 @@
 use mathlib.Core.Path.{ap, sym, _∙_}
 use Prim.Native.Nat.{ℕ, _+_, _*_}
 use lib.ListN.{getD, List·getD-eq-default}
-use Rattle.note.proofs.Table.{default}
+use Rattle.lists.proofs.Ranges.{getD-any}
 use Rattle.meaning.specs.Blocks.{missingPoint, slotAt}
 use Rattle.points.specs.OwnGiven.{codeIn}
 use borrow.Author.Needs.{needs}
@@ -31,7 +31,7 @@ unfolding codeIn slotAt
 returns c =
     let b = c .before .before in
     let a = b .before .before .before .args in
-    default (b .row .result .now) (20 * a .w + a .h) 0 missingPoint (c .before .if1 .taken) ∙ ap (λ (l : mathlib.Core.List.List ℕ). getD l (20 * a .w + a .h) missingPoint) (b .row .ensures)
+    getD-any (b .row .result .now) (20 * a .w + a .h) 0 missingPoint (c .before .if1 .taken) ∙ ap (λ (l : mathlib.Core.List.List ℕ). getD l (20 * a .w + a .h) missingPoint) (b .row .ensures)
 
 returns-2 : tie.Need-returns-2
 unfolding codeIn slotAt

@@ -3,6 +3,7 @@
 -- The invariant: each column is `copied` up to i (`Copied.antt`). The variant: what is left to count.
 use mathlib.Core.Path.{_≡_, refl, sym, _∙_, ap, subst}
 use Prim.Native.Nat.{ℕ, suc, _+_, _-_, _<_, _≤_, _*_, _^_, min, zero-le}
+use native.Mathlib.Numerals.{add-one}
 use native.Mathlib.Omega.{arith}
 use mathlib.Core.Bool.{Bool, true, false, not}
 use mathlib.Core.List.{[], _∷_, List, map}
@@ -49,6 +50,7 @@ use denote.Triple.Clauses.{ensured, lasts}
 use denote.Triple.Table.{entered, cited}
 use denote.Triple.Walked.{says, Stays, stay-none-slice, walkOf, goes-none-slice, Walks, ends-at, walked, walk-meets}
 use denote.Exit.{yes}
+use Rattle.lists.proofs.Turns.{nearer, over}
 use Rattle.meaning.specs.Blocks.{letterOfKind}
 use Rattle.readings.specs.declared.Kind.{Kind}
 use Rattle.readings.specs.declared.Reading.{Reading}
@@ -117,15 +119,6 @@ module _ {M : Type 1} (𝓤 : URA M) (H : Heap 𝓤) (A : Atoms 𝓤) (mem : Mem
 
   byte-of : (k : Kind) (c : ℕ) → ent 𝓤 (ensured 𝓤 H A letter-of.ended (letter-of.clauses 𝓤 H A mem run) tt (k, tt) tt c) (fact 𝓤 (c ≡ letterOfKind (kindView k)))
   byte-of k c = exE 𝓤 _ (λ ws. snd∗ 𝓤 (sem 𝓤 H A (lasts letter-of.ended tt (k, tt) ws)) (fact 𝓤 (c ≡ letterOfKind (kindView k))))
-
-one-more : (i : ℕ) → i + 1 ≡ suc i
-one-more i = omega arith
-
-nearer : (i n : ℕ) → i < n → n - suc i < n - i
-nearer i n l = omega (arith, l)
-
-over : (i n : ℕ) → i ≤ n → n ≤ i → i ≡ n
-over i n a b = omega (arith, a, b)
 
 below-all : (i n : ℕ) → i < min n 600 → i < n
 below-all i n l = omega (arith, l)
@@ -301,7 +294,7 @@ module _ {M : Type 1} (𝓤 : URA M) (H : Heap 𝓤) (A : Atoms 𝓤) (W : Given
         move ! (1 ∷ []) $ drop ! $ owned ! u8 (Is u8) (uint-makes 𝓤 H A W w8) (letter (elem (i .0))) _ (refl, byte-fits c (is .1) is-c) $ move ! (1 ∷ 0 ∷ []) $ elem-put ! u8 fullShare (Ls (i .0)) (i .0) (letter (elem (i .0))) (vint w8 (letter (elem (i .0))) ∷ []) l₅ 0 (within letter (i .0) 69 l) $
         -- `i += 1`
         assigns-last ! (bin ! (load ! (from ! (stop !)) (look ! 4 refl)) (lit ! tt) (record { fits = next-fits (i .0) in-600 })) (from ! (stop !)) (store ! 4 refl (tt, record { fits = next-fits (i .0) in-600 })) $
-        rewrite ! 4 (λ (j : ℕ). ‵ (fat fullShare word l₆ 0 (vint w64 j))) (one-more (i .0)) refl $
+        rewrite ! 4 (λ (j : ℕ). ‵ (fat fullShare word l₆ 0 (vint w64 j))) (add-one (i .0)) refl $
         forget ! 5 refl $ forget ! 6 refl $ forget ! 7 refl $ forget ! 8 refl $ forget ! 9 refl $ forget ! 10 refl $ forget ! 11 refl $ forget ! 12 refl $ forget ! 13 refl $ forget ! 14 refl $ forget ! 15 refl $ forget ! 16 refl $
         move ! (3 ∷ 2 ∷ 1 ∷ 0 ∷ []) $ again ! Nearer At i (suc (i .0), l) (nearer (i .0) m l)))))))))
       where

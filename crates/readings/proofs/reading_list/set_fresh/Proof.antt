@@ -2,6 +2,7 @@
 -- The invariant: the first i readings are fresh (`Fills.antt`). The variant: what is left to count.
 use mathlib.Core.Path.{_≡_, refl, sym, _∙_, ap, subst}
 use Prim.Native.Nat.{ℕ, suc, _+_, _-_, _<_, _≤_, _^_, zero-le}
+use native.Mathlib.Numerals.{add-one}
 use native.Mathlib.Omega.{arith}
 use native.Mathlib.Nat.{lt-of-lt-of-le, le-trans}
 use mathlib.Core.Bool.{Bool, true, false, not}
@@ -48,6 +49,7 @@ use denote.Triple.Clauses.{ensured, lasts}
 use denote.Triple.Table.{entered, cited}
 use denote.Triple.Walked.{says, Stays, stay-slice, stay-none, walkOf, goes-slice, goes-none, Walks, ends-at, walked, walk-meets}
 use denote.Exit.{yes}
+use Rattle.lists.proofs.Turns.{nearer, over}
 use Rattle.readings.specs.declared.Kind.the-variants.{E}
 use Rattle.readings.specs.declared.Reading.{Reading}
 use Rattle.readings.specs.Readings.{fresh}
@@ -90,17 +92,8 @@ tyK = spell pieces.table (pointee (K.the-row .written))
 abbrev CountIf : {M : Type 1} (𝓤 : URA M) (H : Heap 𝓤) (A : Atoms 𝓤) (mem : Memory → SProp 𝓤) (run : Routine → Fun 𝓤) → Contract 𝓤
 CountIf 𝓤 H A mem run = tripleOf 𝓤 H A count-if.signature (count-if.spec 𝓤 H A mem run)
 
-one-more : (i : ℕ) → i + 1 ≡ suc i
-one-more i = omega arith
-
 next-fits : (i n : ℕ) → i < n → n < 2 ^ 64 → i + 1 < 2 ^ 64
 next-fits i n l g = omega (arith, l, g)
-
-nearer : (i n : ℕ) → i < n → n - suc i < n - i
-nearer i n l = omega (arith, l)
-
-over : (i n : ℕ) → i ≤ n → n ≤ i → i ≡ n
-over i n a b = omega (arith, a, b)
 
 module _ {M : Type 1} (𝓤 : URA M) (H : Heap 𝓤) (A : Atoms 𝓤) (W : Given 𝓤 H A) (mem : Memory → SProp 𝓤) (run : Routine → Fun 𝓤) (κ : Lft) (q : Share) (rs : RefT (List Reading)) (room : Room R (length (rs .now))) (all : Bool) where
   abbrev ys : List Reading
@@ -207,7 +200,7 @@ module _ {M : Type 1} (𝓤 : URA M) (H : Heap 𝓤) (A : Atoms 𝓤) (W : Given
         move ! (1 ∷ []) $ drop ! $ owned ! R (Is R) (LL.makes T.the-type T′.the-plain 𝓤 H A) fresh _ fresh-is $ move ! (1 ∷ 0 ∷ []) $
         elem-put ! R fullShare (upTo (i .0) ys) (i .0) fresh (vals fresh) (rs .ptr .0) (rs .ptr .1) (within-up (i .0) l) $
         assigns-last ! (bin ! (load ! (from ! (stop !)) (look ! 1 refl)) (lit ! tt) (record { fits = next-fits (i .0) (length ys) (within (i .0) l) (room .0) })) (from ! (stop !)) (store ! 1 refl (tt, record { fits = next-fits (i .0) (length ys) (within (i .0) l) (room .0) })) $
-        rewrite ! 1 (λ (j : ℕ). ‵ (fat fullShare word l₅ 0 (vint w64 j))) (one-more (i .0)) refl $
+        rewrite ! 1 (λ (j : ℕ). ‵ (fat fullShare word l₅ 0 (vint w64 j))) (add-one (i .0)) refl $
         rewrite ! 0 (λ (zs : List Reading). ‵ (row R fullShare zs (rs .ptr .0) (rs .ptr .1))) (up-more (i .0) ys (within (i .0) l)) refl $
         forget ! 2 refl $ forget ! 3 refl $ forget ! 4 refl $ again ! Nearer At i (suc (i .0), l) (nearer (i .0) m l))
 

@@ -5,7 +5,7 @@ use Prim.Native.Nat.{_+_, _-_, _≤_, min}
 use lib.ListN.{length, take, drop}
 use Rattle.lists.specs.Lists.{any}
 use Rattle.text.specs.Fields.{isStrange, tabAt}
-use Rattle.text.specs.Numbered.{isNumber, valueFrom, valueOf, most}
+use Rattle.text.specs.Numbers.{isNumber, valueFrom, valueOf, most}
 use Rattle.text.proofs.Laws.{tab-here, tab-on, tab-end, strange-on, number-on, value-on, numbered}
 use Rattle.text.proofs.number_fields.number.Statement.{statement}
 use Rattle.text.proofs.number_fields.number.Tie as tie

@@ -5,7 +5,7 @@ use Prim.Native.Nat.{_-_, _≤_}
 use lib.ListN.{length, drop}
 use Rattle.lists.specs.Lists.{any}
 use Rattle.text.specs.Fields.{isStrange}
-use Rattle.text.proofs.Laws.{any-here, any-on, any-end}
+use Rattle.text.proofs.NumberLaws.{any-here, any-on, any-end}
 use Rattle.text.proofs.strange_bytes.some_strange.Statement.{statement}
 use Rattle.text.proofs.strange_bytes.some_strange.Tie as tie
 

@@ -1,8 +1,8 @@
 use Prim.Native.Nat.{_+_}
 use native.Mathlib.Omega.{arith}
 use borrow.Author.Tests.{lt-ltb, le-ltb}
+use Rattle.lists.proofs.Tests.{and-false}
 use Rattle.validity.specs.Columns.{meetsWinter}
-use Rattle.lists.proofs.Ranges.{and-false}
 use borrow.Author.Needs.{needs}
 use Rattle.validity.proofs.columns.meets_winter.Statement.{statement}
 use Rattle.validity.proofs.columns.meets_winter.Tie as tie

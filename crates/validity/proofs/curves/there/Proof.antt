@@ -2,7 +2,7 @@ use borrow.Author.Needs.{needs}
 use borrow.Author.Tests.{eq-eqb}
 use Prim.Native.Nat.{_+_, _*_}
 use lib.ListN.{List·getD-eq-default}
-use Rattle.note.proofs.Table.{default}
+use Rattle.lists.proofs.Ranges.{getD-any}
 use Rattle.meaning.specs.Blocks.{slotAt, missingPoint}
 use Rattle.validity.specs.Availability.{isThere}
 use Rattle.validity.proofs.curves.there.Statement.{statement}
@@ -28,7 +28,7 @@ returns-2 : tie.Need-returns-2
 unfolding isThere slotAt
 returns-2 c =
     let b = c .before .before in
-    rw (default (b .args .row .now) (20 * b .args .w + b .args .h) 0 missingPoint (c .before .if1 .left))
+    rw (getD-any (b .args .row .now) (20 * b .args .w + b .args .h) 0 missingPoint (c .before .if1 .left))
 
 pub there-spec : {M : Type 1} → statement M
 there-spec = tie.close (tie.spec mul-i add-i returns mul-result shared-slice-read-result returns-2)

@@ -1,9 +1,8 @@
 use mathlib.Core.Path.{ap, sym, _∙_}
 use borrow.Author.Needs.{needs}
 use native.Mathlib.Omega.{arith}
-use Rattle.note.proofs.PeakDays.{in-winter}
+use Rattle.note.proofs.PeakDays.{in-winter, place-is, not-nothing}
 use Rattle.validity.specs.Availability.{thereOnDay}
-use Rattle.validity.proofs.Days.{place-is, not-nothing}
 use Rattle.validity.proofs.curves.there_on_peak_day.Statement.{statement}
 use Rattle.validity.proofs.curves.there_on_peak_day.Tie as tie
 

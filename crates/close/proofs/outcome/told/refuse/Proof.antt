@@ -1,11 +1,12 @@
-use mathlib.Core.Path.{refl}
-use Rattle.close.specs.Ends.{noYears}
+use borrow.Author.Needs.{needs}
 use Rattle.close.proofs.outcome.told.refuse.Statement.{statement}
 use Rattle.close.proofs.outcome.told.refuse.Tie as tie
 
+no-years-requires : tie.Need-no-years-requires
+no-years-requires c κs = search needs
+
 returns : tie.Need-returns
-unfolding noYears
-returns c = refl
+returns c = rw (c .no-years .ensures)
 
 pub refuse-spec : {M : Type 1} → statement M
-refuse-spec = tie.close (tie.spec returns)
+refuse-spec = tie.close (tie.spec no-years-requires returns)

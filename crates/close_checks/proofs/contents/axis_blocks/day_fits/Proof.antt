@@ -1,6 +1,6 @@
 use borrow.Author.Needs.{needs}
 use borrow.Author.Tests.{eq-eqb, ne-eqb, le-leb, lt-leb}
-use Rattle.lists.proofs.AllAt.{and-false, and-true}
+use Rattle.lists.proofs.Tests.{and-false, and-true}
 use Rattle.close_checks.specs.Axis.{dayFits}
 use Rattle.close_checks.proofs.contents.axis_blocks.day_fits.Statement.{statement}
 use Rattle.close_checks.proofs.contents.axis_blocks.day_fits.Tie as tie

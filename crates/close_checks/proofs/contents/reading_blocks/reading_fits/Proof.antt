@@ -1,7 +1,7 @@
 use mathlib.Core.Path.{sym, _∙_}
 use borrow.Author.Needs.{needs}
 use borrow.Author.Tests.{le-leb, lt-leb, not-true, not-false}
-use Rattle.lists.proofs.AllAt.{and-false, and-true}
+use Rattle.lists.proofs.Tests.{and-false, and-true}
 use Rattle.meaning.specs.Record.{readingFits}
 use Rattle.close_checks.specs.Axis.{placedAt}
 use Rattle.close_checks.proofs.contents.reading_blocks.reading_fits.Statement.{statement}

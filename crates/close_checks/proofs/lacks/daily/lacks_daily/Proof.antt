@@ -3,8 +3,9 @@ use native.Mathlib.Omega.{arith}
 use borrow.Author.Count.{below-more}
 use mathlib.Core.Bool.{false, _&&_}
 use Prim.Native.Nat.{ℕ, _-_, _≤_, _<_}
+use Rattle.close_checks.specs.Totals.{someIn, someWinter}
 use Rattle.validity.specs.Columns.{january, isSet}
-use Rattle.close_checks.specs.Closing.{someIn, someWinter, missesDays}
+use Rattle.close_checks.specs.Closing.{missesDays}
 use Rattle.lists.proofs.Ranges.{any-found, any-none}
 use Rattle.close_checks.proofs.lacks.daily.lacks_daily.Statement.{statement}
 use Rattle.close_checks.proofs.lacks.daily.lacks_daily.Tie as tie

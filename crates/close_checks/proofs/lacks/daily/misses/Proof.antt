@@ -7,9 +7,9 @@ use Prim.Native.Nat.{ℕ, _+_, _-_, _/_, _≤_, _<_}
 use lib.Dec.{eqb}
 use lib.ListN.{getD}
 use Rattle.lists.specs.Lists.{any, range}
-use Rattle.lists.proofs.Laws.{is-true}
 use Rattle.close_checks.specs.Closing.{missesBetween}
 use Rattle.lists.proofs.Ranges.{range-some, any-none-from}
+use Rattle.lists.proofs.Tests.{is-true}
 use Rattle.close_checks.proofs.lacks.daily.misses.Statement.{statement}
 use Rattle.close_checks.proofs.lacks.daily.misses.Tie as tie
 

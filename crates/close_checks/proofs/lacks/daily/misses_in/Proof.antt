@@ -4,8 +4,9 @@ use native.Mathlib.Omega.{arith}
 use borrow.Author.Count.{below-more}
 use mathlib.Core.Bool.{false, _&&_}
 use Prim.Native.Nat.{ℕ, _-_, _≤_, _<_}
+use Rattle.close_checks.specs.Totals.{someIn}
 use Rattle.validity.specs.Columns.{opens, closes, meetsWinter}
-use Rattle.close_checks.specs.Closing.{someIn, missesDays}
+use Rattle.close_checks.specs.Closing.{missesDays}
 use Rattle.lists.proofs.Ranges.{any-found, any-none}
 use Rattle.close_checks.proofs.lacks.daily.misses_in.Statement.{statement}
 use Rattle.close_checks.proofs.lacks.daily.misses_in.Tie as tie

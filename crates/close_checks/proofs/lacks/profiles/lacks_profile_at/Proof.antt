@@ -2,7 +2,7 @@ use borrow.Author.Tests.{eq-eqb, ne-eqb}
 use lib.ListN.{getD}
 use Rattle.validity.specs.Columns.{isSet}
 use Rattle.validity.specs.Dates.{lacksProfileAt}
-use Rattle.lists.proofs.Ranges.{and-false, and-true}
+use Rattle.lists.proofs.Tests.{and-false, and-true}
 use borrow.Author.Needs.{needs}
 use Rattle.close_checks.proofs.lacks.profiles.lacks_profile_at.Statement.{statement}
 use Rattle.close_checks.proofs.lacks.profiles.lacks_profile_at.Tie as tie

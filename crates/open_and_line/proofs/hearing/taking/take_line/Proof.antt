@@ -3,8 +3,8 @@ use native.Mathlib.Omega.{arith}
 use borrow.Author.Needs.{needs}
 use Rattle.meaning.specs.Line.{Tag, S, C, X, D, P, B, R, E, rank}
 use Rattle.line_form.specs.Fields.{Tells}
-use Rattle.line_form.specs.Reads.{knownTag}
-use Rattle.line_form.proofs.LetterLaws.{told-illegible, told-legible}
+use Rattle.line_form.specs.Tags.{knownTag}
+use Rattle.line_form.proofs.Read.{told-illegible, told-legible}
 use Rattle.line_checks.specs.Before.{Known, OneOfTag}
 use Rattle.progress.specs.ProgressViews.{openRec}
 use Rattle.progress.specs.Steps.{lineBlocks}

@@ -4,10 +4,10 @@ use borrow.Author.Tests.{not-true, not-false}
 use native.Mathlib.Omega.{arith}
 use Prim.Native.Nat.{_-_, _≤_}
 use lib.ListN.{length, drop}
+use Rattle.lists.proofs.AllAt.{allAt-on, allAt-end, stops, goes}
 use Rattle.lists.specs.Lists.{allAt}
 use Rattle.meaning.specs.Record.{eachYear}
 use Rattle.progress.specs.YearRanges.{placeNumberFits}
-use Rattle.progress.proofs.Walks.{all-on, all-not, all-end}
 use Rattle.progress.proofs.year_range.by_year.each_year.Statement.{statement}
 use Rattle.progress.proofs.year_range.by_year.each_year.Tie as tie
 
@@ -37,7 +37,7 @@ returns c =
     let b3 = b1 .before .before in
     let b4 = b3 .before in
     let a = b4 .before .before .args in
-    sym (b4 .loop .inv .1 ∙ all-not (placeNumberFits (a .span) (a .what)) (a .ns .now) (b4 .loop .k) (b3 .loop-test .taken) (sym (b1 .place-number-fits .ensures) ∙ not-true _ (c .if1 .taken)))
+    sym (b4 .loop .inv .1 ∙ sym (stops _ (allAt-on (placeNumberFits (a .span) (a .what)) (a .ns .now) (b4 .loop .k) 0 (b3 .loop-test .taken)) (sym (b1 .place-number-fits .ensures) ∙ not-true _ (c .if1 .taken))))
 
 add-k : tie.Need-add-k Inv-loop μ-loop
 add-k c = search needs
@@ -51,14 +51,14 @@ loop-again c =
     let b3 = b1 .before .before in
     let b4 = b3 .before in
     let a = b4 .before .before .args in
-    (omega arith, b4 .loop .inv .1 ∙ all-on (placeNumberFits (a .span) (a .what)) (a .ns .now) (b4 .loop .k) (b3 .loop-test .taken) (sym (b1 .place-number-fits .ensures) ∙ not-false _ (c .if1 .left)))
+    (omega arith, b4 .loop .inv .1 ∙ goes _ (allAt-on (placeNumberFits (a .span) (a .what)) (a .ns .now) (b4 .loop .k) 0 (b3 .loop-test .taken)) (sym (b1 .place-number-fits .ensures) ∙ not-false _ (c .if1 .left)))
 
 returns-2 : tie.Need-returns-2 Inv-loop μ-loop
 unfolding eachYear placeNumberFits
 returns-2 c =
     let b1 = c .before in
     let a = b1 .before .before .args in
-    sym (b1 .loop .inv .1 ∙ all-end (placeNumberFits (a .span) (a .what)) (a .ns .now) (b1 .loop .k) (c .loop-test .left))
+    sym (b1 .loop .inv .1 ∙ allAt-end (placeNumberFits (a .span) (a .what)) (a .ns .now) (b1 .loop .k) (c .loop-test .left))
 
 pub each-year-spec : {M : Type 1} → statement M
 each-year-spec =

@@ -1,7 +1,7 @@
 use native.Mathlib.Omega.{arith}
 use Prim.Native.Nat.{_-_}
-use Rattle.filings.proofs.main.Statement.{statement}
-use Rattle.filings.proofs.main.Tie as tie
+use Rattle.test_filings.proofs.main.Statement.{statement}
+use Rattle.test_filings.proofs.main.Tie as tie
 
 abbrev Inv-loop : tie.InvT-loop
 Inv-loop count i₀ i = Unit {0}

@@ -1,8 +1,8 @@
 use native.Mathlib.Omega.{arith}
 use Prim.Native.Nat.{_≤_, _-_}
 use lib.ListN.{length}
-use Rattle.refusals.proofs.line_end.Statement.{statement}
-use Rattle.refusals.proofs.line_end.Tie as tie
+use Rattle.test_refusals.proofs.line_end.Statement.{statement}
+use Rattle.test_refusals.proofs.line_end.Tie as tie
 
 abbrev Inv-loop : tie.InvT-loop
 Inv-loop text at e₀ e = (at ≤ e) × (e ≤ length text)

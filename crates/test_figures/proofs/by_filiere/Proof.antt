@@ -1,7 +1,7 @@
 use Prim.Native.Nat.{_-_, _≤_}
 use borrow.Author.Needs.{needs}
-use Rattle.figures.proofs.by_filiere.Statement.{statement}
-use Rattle.figures.proofs.by_filiere.Tie as tie
+use Rattle.test_figures.proofs.by_filiere.Statement.{statement}
+use Rattle.test_figures.proofs.by_filiere.Tie as tie
 
 abbrev Inv-loop : tie.InvT-loop
 Inv-loop what filiere₀ filiere = filiere ≤ 12

@@ -1,8 +1,8 @@
 use borrow.Author.Needs.{needs}
 use native.Mathlib.Omega.{arith}
 use lib.ListN.{length-take}
-use Rattle.refusals.proofs.step.Statement.{statement}
-use Rattle.refusals.proofs.step.Tie as tie
+use Rattle.test_refusals.proofs.step.Statement.{statement}
+use Rattle.test_refusals.proofs.step.Tie as tie
 
 is-sign-requires : tie.Need-is-sign-requires
 is-sign-requires c κs = search needs

@@ -3,8 +3,8 @@ use borrow.Author.Needs.{needs}
 use native.Mathlib.Omega.{arith}
 use Prim.Native.Nat.{_≤_, _-_}
 use lib.ListN.{length}
-use Rattle.refusals.proofs.main.Statement.{statement}
-use Rattle.refusals.proofs.main.Tie as tie
+use Rattle.test_refusals.proofs.main.Statement.{statement}
+use Rattle.test_refusals.proofs.main.Tie as tie
 
 abbrev Inv-loop : tie.InvT-loop
 Inv-loop near₀ far₀ slots₀ daily₀ curve₀ text n record₀ readings₀ at₀ near far slots daily curve «record» readings at =
