@@ -1,6 +1,6 @@
-// What a call answers.
-mod first_stops; // the stops that come before any other, by number: 1 on the sizes of the lent blocks, and 1 before 13 before 14
-mod record_stops; // 1 on the record's fields, and the stops of a line that come before any other: 1, then 13
+// What a call answers, and the refusals that come before any other: 1, then 13, then 14 of a close.
+mod first_stops; // 1 on the sizes of the lent blocks, and the order of 1, 13 and 14
+mod record_stops; // 1 on the record's fields; 1 and 13 of a line
 
 pub use first_stops::ended_stop;
 pub use first_stops::sizes_fit;

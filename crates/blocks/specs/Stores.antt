@@ -1,4 +1,4 @@
--- Where the 20 values of a P line go, and as what; of a C line, as `point_rows` has it (document 01, Calls and the lines of a file).
+-- Where the 20 values of a P line go, and as what (document 01, Calls and the lines of a file).
 use mathlib.Core.List.{List, map}
 use Prim.Native.Nat.{ℕ, _+_, min}
 use lib.Seq.{sets}

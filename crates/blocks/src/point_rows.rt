@@ -1,4 +1,6 @@
 // The points of one line, stored at the place of its date.
+use crate::NO_POINT;
+use crate::ROW;
 ghost use mathlib.Core.Path.{_≡_};
 ghost use mathlib.Core.List.{map};
 ghost use Prim.Native.Nat.{_+_, _≤_};
@@ -9,12 +11,6 @@ ghost use Rattle.blocks.specs.PointStores.{pointCode, nearPut, farPut, R
 // The most that a point may be, in W.
 const MOST_POWER: u64 = 100_000_000;
 
-// A missing point.
-const MISSING: u32 = 4_294_967_295;
-
-// 152 date places of 20 half-hours.
-const ROW: usize = 3040;
-
 // A point as the block has it: a code that is no point is a missing one.
 fn point_code(code: u64) -> u32
     ensures { λ r. ⌜ r ≡ pointCode code ⌝ }
@@ -22,7 +18,7 @@ fn point_code(code: u64) -> u32
     if code <= MOST_POWER {
         return code as u32;
     }
-    MISSING
+    NO_POINT
 }
 
 // 20 points in a year's row, from a date's first half-hour on.

@@ -1,4 +1,5 @@
 // The values of one line, each stored at the place of its date.
+use crate::ROW;
 ghost use mathlib.Core.Path.{_≡_};
 ghost use mathlib.Core.List.{map};
 ghost use Prim.Native.Nat.{_+_, _≤_, _<_};
@@ -8,9 +9,6 @@ ghost use Rattle.blocks.specs.Stores.{profileCode, slotsPut};
 
 // The most that a profile value may be, in ten-thousandths.
 const MOST_PROFILE: u64 = 65_535;
-
-// 152 date places of 20 half-hours.
-const ROW: usize = 3040;
 
 fn profile_code(code: u64) -> u16
     ensures { λ r. ⌜ r ≡ profileCode code ⌝ }

@@ -1,9 +1,8 @@
 // A year's row of points: a part of the near or of the far block.
+use crate::ROW;
 ghost use mathlib.Core.Path.{_≡_};
 ghost use Prim.Native.Nat.{_<_, _*_};
 ghost use Rattle.blocks.specs.Rows.{holdsYear, part, rowOf};
-
-const ROW: usize = 3040;
 
 // Whether the two blocks hold the year for the AL.
 pub fn holds_year(al: u64, year: u64) -> bool

@@ -1,9 +1,10 @@
-// Dates and their places in the rows of a year.
-mod dates; // days of the Gregorian calendar, by numbers alone: leap years, months and dates
-mod rows; // the places of a year's rows, 0 to 365 for dates and 0 to 151 for winter dates: 29 February has one in every year
-mod places; // date places and winter places
+// Dates and where they stand: which dates there are, their places in a year's rows, the years of a site's history and axis, and positions on the axis.
+// 29 February has a place in every year, so that a place is the same date in each.
+mod dates; // leap years, months, dates and winter
+mod rows; // the places of a year's rows, 0 to 365 for dates and 0 to 151 for winter dates, and which of them a year has
+mod places; // the place of a date, and the date at a place
 mod spans; // the years of a site's history and axis
-mod positions; // positions on the axis, 366 for each of its years: of a date, and back
+mod positions; // the position of a date on the axis, 366 for each year, and back
 
 pub use dates::is_date;
 pub use dates::is_leap;
@@ -13,6 +14,7 @@ pub use places::date_place;
 pub use places::day_at;
 pub use places::winter_day_at;
 pub use places::winter_place;
+pub use positions::date_at;
 pub use positions::position;
 pub use rows::has_date;
 pub use rows::has_winter_date;

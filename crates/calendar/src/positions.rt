@@ -27,7 +27,7 @@ pub fn position(al: u64, filiere: u64, year: u64, month: u64, day: u64) -> Place
 }
 
 // The date at a place of the daily block.
-pub(crate) fn date_at(al: u64, filiere: u64, position: usize) -> AxisDate
+pub fn date_at(al: u64, filiere: u64, position: usize) -> AxisDate
     ensures { λ r. ⌜ r ≡ dateAt (axisYears (historyYears al filiere)) position ⌝ }
 {
     let years = axis(al, filiere);

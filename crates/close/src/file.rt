@@ -1,4 +1,5 @@
 // The close of a file.
+use blocks::NO_ENTRY;
 ghost use mathlib.Core.Path.{_≡_};
 ghost use mathlib.Core.Bool.{true};
 ghost use lib.ListN.{replicate};
@@ -17,8 +18,6 @@ use curve::Filling;
 use history::Marks;
 use line_form::Site;
 use progress::Tallies;
-
-const MISSING: u64 = 18446744073709551615;
 
 // The curve of all years by their marks, E and daily total by position. It comes in with every entry missing.
 fn filled_by<'a>(
@@ -88,7 +87,7 @@ pub(crate) fn close_file<'a>(
         return crate::outcome::refused(number);
     }
     let codes = m.codes;
-    let mut filled = [MISSING; 4400];
+    let mut filled = [NO_ENTRY; 4400];
     let f = filled_by(site, tallies, m, near, far, slots, &e, &totals, &mut filled);
     curve::lend(f.exceeds, &filled, curve);
     if f.exceeds {

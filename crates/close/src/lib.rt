@@ -1,9 +1,9 @@
-// A close: 1, 13 and 14, then what the close of the file tells of an open record.
-mod outcome; // what a close hands back: the answer, the record's state and the years of a report
+// The work of the close, on plain blocks and the parts of a record: 1, 13 and 14, then 15 to 18, else level, cases, points present and curve.
 mod whole; // the close
-mod file; // once record and blocks fit and E was taken: 15 to 18, else level, cases, points and curve
+mod stops; // 1, 13 and 14
+mod file; // 15 to 18 and the curve, of a file that 1, 13 and 14 let through
 mod report; // the report of a file that nothing refuses
-mod stops; // the stops that come before any other: 1, then 13, then 14
+mod outcome; // what is handed back: answer, state and years
 
 pub use outcome::Ended;
 pub use outcome::Year;

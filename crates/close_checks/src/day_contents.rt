@@ -1,11 +1,10 @@
 // What 1 asks at the close of the 20 points, or profile values, of one day.
+use blocks::NO_POINT;
 ghost use mathlib.Core.Path.{_≡_};
 ghost use mathlib.Core.Bool.{false};
 ghost use Rattle.lists.specs.Lists.{all};
 ghost use Rattle.meaning.specs.Record.{pointFits};
 ghost use Rattle.close_checks.specs.Slots.{slotFits};
-
-const MISSING: u32 = 4294967295;
 
 const MOST_POWER: u32 = 100000000;
 
@@ -27,7 +26,7 @@ pub(crate) fn points_on_day(points: &[u32], dated: bool) -> bool
 fn point_fits(dated: bool, v: u32) -> bool
     ensures { λ r. ⌜ r ≡ pointFits dated v ⌝ }
 {
-    if v == MISSING {
+    if v == NO_POINT {
         return true;
     }
     if !dated {

@@ -1,9 +1,9 @@
-// From the points of the places to the curve, the points present and the level (document 01, Cases; Calls and the lines of a file).
-mod tallies; // a place's entry in the curve, and sums over places
-mod places; // the half-hours of a day and the peak days of a year: each point is entered into the curve and tallied
+// From the points of all places to the curve, the points present, 18 and the level (document 01, Cases; Calls and the lines of a file).
+mod tallies; // the entry of a place in the curve, and sums over places
+mod places; // the half-hours of a day and the peak days of a year
+mod whole; // all years of the history
 mod level; // the NCC
-mod whole; // all years
-mod lent; // the curve that a close lends back: filled aside, and copied only where nothing is refused
+mod lent; // the lent curve, written where nothing is refused
 
 pub use lent::lend;
 pub use level::ncc;

@@ -14,7 +14,7 @@ use points::Basis;
 use points::Year;
 
 // By history year: whether its curve and its index are valid, and its CA.
-pub struct Marks {
+pub(crate) struct Marks {
     pub curves: [u64; 10],
     pub indexes: [u64; 10],
     pub cas: [u64; 10],

@@ -1,4 +1,5 @@
 // A place's entry in the curve, and sums over places (document 01, Cases; 18).
+use blocks::NO_ENTRY;
 ghost use mathlib.Core.Path.{_≡_};
 ghost use Prim.Native.Nat.{_+_, _≤_};
 ghost use Rattle.points.specs.OwnFits.{FilledFits};
@@ -7,19 +8,17 @@ ghost use Rattle.curve.specs.Tallies.{entryFilled, tallyFilled, plus as 
 use points::own::Filled;
 
 // Of some places: whether 18 holds, the sum in mW of the points that are there, and how many there are.
-pub struct Tally {
+pub(crate) struct Tally {
     pub exceeds: bool,
     pub sum: u64,
     pub counted: u64,
 }
 
-pub const NOTHING: Tally = Tally {
+pub(crate) const NOTHING: Tally = Tally {
     exceeds: false,
     sum: 0,
     counted: 0,
 };
-
-const MISSING: u64 = 18446744073709551615;
 
 // The entry after the year's rate; a rate of 0 is none.
 pub(crate) fn entry_of(f: Filled, rate: u64) -> u64
@@ -27,8 +26,8 @@ pub(crate) fn entry_of(f: Filled, rate: u64) -> u64
     ensures { λ r. ⌜ r ≡ entryFilled rate f ⌝ }
 {
     match f {
-        Filled::Missing => MISSING,
-        Filled::Exceeds => MISSING,
+        Filled::Missing => NO_ENTRY,
+        Filled::Exceeds => NO_ENTRY,
         Filled::Is(p) => {
             if rate == 0 {
                 return p.0;

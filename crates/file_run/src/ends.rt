@@ -22,7 +22,7 @@ pub struct Filed {
 }
 
 // Turns that are left for reading, and what ends the run if none is.
-pub struct Left {
+pub(crate) struct Left {
     pub turns: u64,
     pub end: End,
 }

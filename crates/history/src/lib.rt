@@ -1,10 +1,10 @@
-// What the ten years of the longest history have: energies, daily totals and index donors, once a day.
-// What a close looks at before its points: which history years are valid, and their cases (document 01, Validity; Cases).
-mod winter_days; // on a winter day
-mod ca; // CA of the ten years of the longest history, and the sum over a history, once a file
-mod cases; // the case of a history year, the first that fits, and the number that it is kept as
-mod codes; // the case of each history year, as a number
-mod valid_years;
+// The history years: which are valid, the case of each (document 01, Cases), CA, and what each has on a winter day. Each array has a place for the ten
+// years of the longest history, from the oldest on, and 0 at those that the file does not have.
+mod valid_years; // valid curves, valid indexes, and the cases that they give
+mod cases; // the case of a year: the first that fits
+mod codes; // the case of each year, as a number
+mod ca; // CA of each year, and the sum
+mod winter_days; // on a winter day: energies, daily totals and index donors
 
 pub use ca::cas_from;
 pub use ca::cas_sum;

@@ -1,11 +1,10 @@
-// The refusals 4 to 12 of a line: their checks in order, what is answered, and the laws of both. The functions stand by tag in `end_lines`, `year_lines`,
-// `axis_lines` and `winter_lines`.
+// The refusals 4 to 12 of a line: the checks in their order, and those that several tags share. `line_steps` asks them tag by tag.
 //
-// A line comes there once 2 and 3 have left it, so its tag is known. Each function looks at the line and at plain numbers, asks every check of its tag and
-// answers the number of the first that holds, 0 for none, with the numbers that an accepted line changes the record by.
-mod order; // the checks in order, and those that several tags share
-mod date_keys; // dates as they come off a line, which may be none
-mod value_ranges; // 6 on the 20 values of C and P lines
+// A line comes here once 2 and 3 have let it through, so its tag is known. A check looks at plain numbers, and the number of the first that holds is
+// answered, 0 for none.
+mod order; // the checks in order, and 4, 6 and 8 on plain numbers
+mod date_keys; // the date of a line, which may be none: 7, its key, its winter place and its position
+mod value_ranges; // 6 on the 20 values of C and P
 
 pub use date_keys::key_of;
 pub use date_keys::lacks_date;

@@ -1,4 +1,4 @@
--- Laws of the letters of a meter and of a kind, and those of `tags`, passed on.
+-- Laws of the letters of a meter and of a kind.
 use mathlib.Core.Path.{_≡_, refl}
 use mathlib.Core.Bool.{not}
 use lib.Dec.{eqb}

@@ -1,22 +1,16 @@
-// One line's form: from its fields to its tag, as `tags` has it, and its numbers.
+// The form of a line: 2, 3 and 5. One pass over its bytes finds its fields, and from these come its tag and the numbers of each tag.
 //
-// Each reader takes the fields of any line. It says whether every field after the tag is in its form (5), and hands out each number up to 10^18, which
-// is above every range that a field has, so that 6 and 7 can be judged on the numbers alone.
-// The shape of one field: a number, the edition, one byte alone, or none of these.
-// The fields of a line, told in one pass over its bytes: what comes after looks at no byte again.
-//
-// A field is told by its shape (a number, the edition, one byte alone, or none of these) and its number up to 10^18, which is above every range that a
-// field has, so that 3 to 12 can be judged on shapes and numbers alone.
-// The tag of a line, and whether the line has the tag's number of fields.
-// The lines of 20 values, C and P. Each value is handed out as a code: its number, or DASH for a missing point.
-mod parts; // numbers, and the date past the tag
-mod shapes;
-mod table;
-mod tags; // by the line's fields
-mod site_fields; // the fields of an S line
-mod year_fields; // the fields of B, R and E lines
-mod axis_fields; // the fields of X and D lines
-mod values; // the fields of a line
+// A field is kept as its shape (a number, the edition, one byte alone, or none of these) and its number up to 10^18, which is above every range that a
+// field has: 3 to 12 are judged on shapes and numbers, and no byte is looked at again. The reader of a tag takes the fields of any line and says whether
+// each after the tag is in its form (5).
+mod shapes; // the shape of a field
+mod table; // all fields of a line, and whether it can be read (2)
+mod tags; // the tag of a line, and whether it has the tag's number of fields (3)
+mod parts; // what the readers share: numbers, and the date past the tag
+mod site_fields; // the fields of S
+mod year_fields; // the fields of B, R and E
+mod axis_fields; // the fields of X and D
+mod values; // the fields of C and P: a date and 20 values, each as a code: its number, or DASH for a missing point
 
 pub use axis_fields::read_daily;
 pub use axis_fields::read_reading;
@@ -92,11 +86,11 @@ pub struct CountRead {
 
 // A byte that is alone in its field is the field's shape. A digit alone is a number, so that digits are free to stand for other shapes: 0 for a number,
 // 1 for the edition's text, and 2 for any other field.
-pub const NUMBER: u8 = 48;
+pub(crate) const NUMBER: u8 = 48;
 
-pub const EDITION: u8 = 49;
+pub(crate) const EDITION: u8 = 49;
 
-pub const OTHER: u8 = 50;
+pub(crate) const OTHER: u8 = 50;
 
 // How many fields a line has, 25 for all numbers above 24, and 0 where the line is illegible [2]; each field's shape, and its number up to 10^18.
 pub struct Fields {

@@ -1,4 +1,4 @@
--- 4 of C, and the place and the key of a date, as `date_keys` has them.
+-- 4 of C, and the place and the key of a date.
 use mathlib.Core.Bool.{Bool, _||_}
 use Prim.Native.Nat.{ℕ}
 use Rattle.meaning.specs.Filing.{Meter}

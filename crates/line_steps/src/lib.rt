@@ -1,8 +1,9 @@
-// line_steps: end_lines, winter_lines, axis_lines, year_lines.
-mod site_and_end; // S and E lines: the refusals 4 to 12, and what an accepted one changes, the progress alone
-mod points_and_profiles; // C and P lines: the refusals 4 to 12, and what an accepted one changes: a row of 20 values at a winter date, and the progress
-mod readings_and_sums; // X and D lines: the refusals 4 to 12, and what an accepted one changes
-mod breaks_and_rates; // B and R lines: the refusals 4 to 12, and what an accepted one changes, the progress alone
+// A line by its tag: refused by one of 4 to 12, or taken into the progress and the lent blocks. Of each tag one function judges the line (judging) and one
+// takes it (taking); a refused line changes nothing.
+mod site_and_end; // S and E
+mod points_and_profiles; // C and P: 20 values at a winter date
+mod readings_and_sums; // X and D: a number at a date of the axis; the reading is left to the caller
+mod breaks_and_rates; // B and R: a history year
 
 pub use breaks_and_rates::break_line;
 pub use breaks_and_rates::rate_line;

@@ -1,5 +1,5 @@
 // Annex 1 of the note: the peak days (jours PP2) of 2007 to 2021 as winter places, year by year.
-pub const PLACES: [usize; 282] = [
+pub(crate) const PLACES: [usize; 282] = [
     // 2007
     22,
     23,
@@ -300,7 +300,7 @@ pub const PLACES: [usize; 282] = [
 ];
 
 // Where the part of each year from 2007 on begins; the last entry is where 2021 ends.
-pub const STARTS: [usize; 16] = [
+pub(crate) const STARTS: [usize; 16] = [
     0,
     20,
     40,

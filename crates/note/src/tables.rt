@@ -1,7 +1,7 @@
 // The note's tables of coefficients.
 
 // CA (3.3) in thousandths: seven columns a year, 0 where the note has none.
-pub const CA: [u64; 126] = [
+pub(crate) const CA: [u64; 126] = [
     // 2007
     0,
     0,
@@ -149,10 +149,10 @@ pub const CA: [u64; 126] = [
 ];
 
 // The column of CA that each filière from 1 on has.
-pub const COLUMNS: [usize; 12] = [7, 0, 1, 1, 2, 2, 3, 3, 3, 4, 5, 6];
+pub(crate) const COLUMNS: [usize; 12] = [7, 0, 1, 1, 2, 2, 3, 3, 3, 4, 5, 6];
 
 // Theta (annex 2) of each filière from 1 on, in hundred-thousandths.
-pub const THETAS: [u64; 12] = [
+pub(crate) const THETAS: [u64; 12] = [
     0,
     13769,
     23940,
@@ -168,4 +168,4 @@ pub const THETAS: [u64; 12] = [
 ];
 
 // C (annex 4) of each filière from 1 on for AL 2022 and later, in hundredths.
-pub const COEFFICIENTS: [u64; 12] = [0, 25, 70, 80, 85, 100, 100, 100, 100, 100, 100, 100];
+pub(crate) const COEFFICIENTS: [u64; 12] = [0, 25, 70, 80, 85, 100, 100, 100, 100, 100, 100, 100];

@@ -1,6 +1,7 @@
-// open_and_line: opening, hearing.
-mod opening; // opening, on the lent blocks: all fresh where each has its size, else as they were
-mod hearing; // a line of a file: 1 and 13, then what it does to an open record, whatever its tag
+// The work of opening and of a line, on plain blocks and the parts of a record. The lent list of readings is told by its length alone: `site` makes it
+// fresh, or stores the reading that a line gave.
+mod opening; // opening: every block fresh where each has its size, else as it was
+mod hearing; // a line: 1 and 13, then 2 to 12 or what the line changes
 
 pub use hearing::Heard;
 pub use hearing::hear_line;

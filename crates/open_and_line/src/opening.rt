@@ -5,15 +5,12 @@ use crate::opening::fills::fill_u16;
 use crate::opening::fills::fill_u32;
 use crate::opening::fills::fill_u64;
 use answers::sizes_fit;
+use blocks::NO_ENTRY;
+use blocks::NO_POINT;
 ghost use Rattle.readings.specs.Lent.{EachList};
 ghost use Rattle.readings.specs.Readings.{seen, freshened};
 ghost use Rattle.readings.specs.Columns.{world};
 ghost use Rattle.open_and_line.specs.Opens.{Opens};
-
-// A missing point, and a missing entry of the curve.
-const NO_POINT: u32 = 4_294_967_295;
-
-const NO_ENTRY: u64 = 18_446_744_073_709_551_615;
 
 // Whether the blocks have their sizes. The caller makes the readings fresh, of which it tells how many they are.
 pub fn open_blocks(

@@ -2,9 +2,9 @@
 //
 // The record's calls are lent the list of readings, a slice of structs, which the prover's own walk does not cover. Each function lends its array for
 // one call and hands it back, so that every other caller has plain parameters alone.
-mod closes; // the close
-mod lines; // a line
 mod opens; // opening
+mod lines; // a line
+mod closes; // the close
 mod packing; // what is handed back, with the readings
 
 pub use closes::close_own;

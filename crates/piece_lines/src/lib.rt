@@ -1,11 +1,11 @@
 // All lines that a piece of the input has whole, given to the record one after the other.
 //
 // The readings are an array of the caller's. It is lent for all lines of a piece at once, so that it is not copied once a line.
+mod own; // the lines of a piece, with the readings in an array of the caller's
 mod all_lines; // the loop over a piece's lines
 mod giving; // one of them, given to the record
 mod lines; // the line of a turn, and the turn after it
 mod next; // the next line of a piece
-mod own; // the same for readings in an array of the caller's
 
 use answers::Answer;
 pub use own::give_own;

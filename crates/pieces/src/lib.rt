@@ -1,7 +1,8 @@
-// No code: a run over input that comes in pieces, as definitions, and its laws.
-mod begun; // the line begun: where it ends in a piece, and when it is whole
+// Input that comes in pieces, cut anywhere: what a run over it is (specs/Run), what a run promises (specs/Promise), and the functions that find its
+// lines.
+mod next_lines; // the next line of a piece
+mod begun; // the line begun: where it ends, and when it is whole
 mod joining; // the line begun: its bytes, which are held from piece to piece
-mod next_lines; // the next line of a piece of the input, from a place on
 mod answered; // whether a run has its answer
 
 pub use answered::is_answered;

@@ -9,7 +9,7 @@ use crate::own::filled_by;
 use rounding::Power;
 
 // The sum of the donors' points in mW and that of their CA, or that a donor's own point is refusal 18.
-pub enum Donors {
+pub(crate) enum Donors {
     Are { points: u64, cas: u64 },
     Exceed,
 }

@@ -1,8 +1,8 @@
-// The point of a place, before its rate, by its year's case (document 01, Cases).
-pub mod own; // a year's own points before their rate: as read, or profiled from its energy; and the default power
-mod donors; // rebuilt points: a place takes the sums over the donors that have the same month, day and half-hour, before rates
-mod curve_donors; // donors that have a valid curve
-mod index_donors; // donors that have a valid index
+// The point of a place before its rate, by the case of its year (document 01, Cases): as read, profiled, rebuilt from donors, or by default.
+pub mod own; // what a year's own lines give: a point as read, profiled from its energy, or by default
+mod donors; // the sums over donors, and the point rebuilt from them
+mod curve_donors; // the donors of case 2: years with a valid curve
+mod index_donors; // the donors of cases 3 and 5: years with a valid index
 
 use crate::own::Filled;
 use history::Case;

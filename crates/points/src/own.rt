@@ -1,4 +1,7 @@
 // A year's own points before their rate: as read, or profiled from its energy; and the default power (document 01, Cases).
+use blocks::HALF_HOURS;
+use blocks::NO_POINT;
+use blocks::ROW;
 ghost use mathlib.Core.Path.{_≡_};
 ghost use Prim.Native.Nat.{_≤_, _<_};
 ghost use lib.Dec.{T};
@@ -29,8 +32,6 @@ pub struct Basis {
     pub cas: u64,
 }
 
-const MISSING: u32 = 4294967295;
-
 // What a rounding step answers, as the point of a place.
 pub(crate) fn filled_by(p: Point) -> Filled
     ensures { λ r. ⌜ r ≡ filledBy p ⌝ }
@@ -54,11 +55,11 @@ pub(crate) fn code<'a>(
     ensures { λ r. ⌜ r ≡ codeIn al (now (near .entry)) (now (far .entry)) year w h ⌝ }
 {
     let row = blocks::row(near, far, al, year);
-    let i = 20 * w + h;
+    let i = HALF_HOURS * w + h;
     if i < row.len() {
         return row[i];
     }
-    MISSING
+    NO_POINT
 }
 
 // The profile value of a year's place and half-hour.
@@ -66,7 +67,7 @@ pub(crate) fn profile(slots: &[u16], k: usize, w: usize, h: usize) -> u64
     requires { ⌜ (length (now slots) ≡ slotsSize) × (k < 10) × (w < 152) × (h < 20) ⌝ }
     ensures { λ r. ⌜ ProfileIs (profileIn (now (slots .entry)) k w h) r ⌝ }
 {
-    let i = 3040 * k + (20 * w + h);
+    let i = ROW * k + (HALF_HOURS * w + h);
     slots[i] as u64
 }
 
@@ -75,7 +76,7 @@ pub(crate) fn measured(code: u32) -> Filled
     requires { ⌜ T (isPoint code) ⌝ }
     ensures { λ r. ⌜ FilledIs (ownOf (readBy (pointOfCode code))) r ⌝ }
 {
-    if code == MISSING {
+    if code == NO_POINT {
         return Filled::Missing;
     }
     Filled::Is(Power(1000 * (code as u64)))

@@ -1,12 +1,12 @@
-// What a line does to an open record: the progress of a file, and one step of it.
+// What the lines so far gave: the site, the last date of each tag, how many readings, and numbers by year. What one step of a line hands back, and whether
+// each number is in its field's range (1).
 //
 // A step hands back the progress and, of an X line, the reading: the caller stores it and keeps state and count.
-// 1 on the dates and tallies of a record: whether each number is within its field's range.
-mod answers; // a step with no reading
-mod by_year; // the numbers by year
-mod last_dates; // the last date or year of each tag
-mod year_range; // one number of a year, and one last date
+mod answers; // a step that gives no reading
 mod site_ranges; // 1 on what S gave: AL, filière, meter and PS
+mod last_dates; // 1 on the last date or year of each tag
+mod by_year; // 1 on the numbers by year
+mod year_range; // 1 on one last date and on one number of a year
 
 pub use answers::answer;
 pub use by_year::tallies_fit;

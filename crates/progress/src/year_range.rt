@@ -7,7 +7,7 @@ pub(crate) use last_dates::date_fits;
 pub(crate) use last_dates::year_fits;
 
 // What is told by year.
-pub enum Tally {
+pub(crate) enum Tally {
     ProfileDates,
     DailyDates,
     Breaks,

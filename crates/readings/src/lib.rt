@@ -1,5 +1,5 @@
-// A reading: its position on the axis, its count in Wh and its kind. `reading_list` has the lent list of them.
-mod reading_list; // the readings as one lent list
+// A reading: its position on the axis, its count in Wh and its kind; and the lent list of readings.
+mod reading_list; // the functions that touch the lent list: one reading stored, all made fresh, all copied into columns
 
 pub use reading_list::columns_of;
 pub use reading_list::put;

@@ -1,7 +1,7 @@
-// Energies and powers, and the roundings between the readings of a site and its NCC (document 01, Cases).
-mod nearest;
-mod rebuilding; // what is rounded of points that were not measured: by energy and profile, by the donors, by default
-mod levels; // what is rounded of measured points: a point by its year's rate, and the level
+// Energies and powers, and every rounding between the readings of a site and its NCC: to nearest, half up (document 01, Cases).
+mod nearest; // the rounded quotient
+mod rebuilding; // points that were not measured: profiled, rebuilt from donors or by default, and 18
+mod levels; // a point by its year's rate, and the level
 
 pub use levels::level;
 pub use levels::rated;

@@ -1,12 +1,11 @@
-// A run over the input: its record, its answer and the line begun, with the readings that it keeps.
-// A piece of a run's input, of any size.
+// A run over the input of one filing: opened, fed piece by piece, ended. It keeps the record, its answer, the readings and the line begun.
 //
-// What feed promises is one equation with the run of the definitions: answer, record, lent lists and the line begun. The readings are an array that is
-// taken and handed back.
-mod first_run; // a run at its start
+// What each function promises is one equation with the run of the definitions (`pieces`, specs/Run). The readings are an array that is taken and handed
+// back.
+mod first_run; // a run at its start, on a record that is opened
 mod feeding; // a piece: the line begun, and the lines after it
-mod lines; // the lines of a piece that none is begun before
-mod finishing; // the end of a run: at the input's end a last line, then the close
+mod lines; // the lines of a piece that no line is begun before
+mod finishing; // the end: a last line without its byte 10, then the close
 
 use answers::Answer;
 pub use feeding::feed;

@@ -1,6 +1,6 @@
-// The text of a sheet: at most 86 bytes of its N line and 46 of each Y line.
-mod refusal_line; // a refusal's line
-mod report_lines; // the lines of a level and of its years
+// The text of a sheet (document 01, The printed sheet): at most 86 bytes of its N line and 46 of each Y line.
+mod refusal_line; // the line Z of a refusal
+mod report_lines; // the lines N and Y of a report
 
 use crate::refusal_line::put_refusal;
 use crate::report_lines::put_level;

@@ -1,6 +1,7 @@
 // Runs the cases on standard input through opening and line, and writes each refusal's number and count.
 //
 // A line = ends a case, and a line ~ stands for a line that is given with a near block of another size.
+use blocks::NO_POINT;
 ghost use Prim.Native.Nat.{_≤_};
 ghost use lib.ListN.{length};
 use answers::Answer;
@@ -12,8 +13,6 @@ use own_calls::open_own;
 use readings::Reading;
 use readings::fresh_readings;
 use site::Record;
-
-const MISSING: u32 = 4294967295;
 
 // A record with its readings, and what is to be written: nothing (0), a refusal (1) or a case's end (2).
 struct Stepped {
@@ -158,8 +157,8 @@ fn write_step(say: u64, number: u64, count: u64) {
 }
 
 fn main() {
-    let mut near = [MISSING; 15200];
-    let mut far = [MISSING; 15200];
+    let mut near = [NO_POINT; 15200];
+    let mut far = [NO_POINT; 15200];
     let mut slots = [0u16; 30400];
     let mut daily = [0u32; 4392];
     let mut curve = [0u64; 4400];

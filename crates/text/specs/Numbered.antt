@@ -1,4 +1,4 @@
--- Numbers in a field, as `numbers` has them, and the number in a line's first field.
+-- The number in a line's first field.
 use mathlib.Core.List.{List}
 use Prim.Native.Nat.{ℕ, min}
 use Rattle.lists.specs.Lists.{any}

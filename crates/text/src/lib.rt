@@ -1,11 +1,10 @@
-// The text of a file's lines: fields parted by tabs, and what a field holds: a fixed text, or as `numbers` has it a number.
-// A walk over the bytes of a line: whether some byte is strange, and the first field as a number.
-mod fields; // the fields of a line
-mod numbers; // numbers in a field
-mod strange_bytes; // strange bytes
-mod number_fields; // a field as a number
-mod written_text; // text into lent bytes: from a place on, all of it or, where it does not fit, nothing
-mod written_numbers; // a number's decimal digits into lent bytes: from a place on, all of them or, where they do not fit, nothing
+// Bytes read and written: the fields, numbers and strange bytes of a line, and text and decimal numbers put into lent bytes.
+mod fields; // the first field of a line, what comes after its tab, and the text of the edition
+mod numbers; // a number, told byte by byte
+mod strange_bytes; // strange bytes: other than tab and 32 to 126
+mod number_fields; // the first field as a number, in one walk over its bytes
+mod written_text; // bytes put from a place on, or none of them where they do not fit
+mod written_numbers; // the decimal digits of a number, likewise
 
 pub use fields::field;
 pub use fields::is_edition;

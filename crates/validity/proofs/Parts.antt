@@ -1,4 +1,4 @@
--- How many points a day and a year have at most; laws of `year_rows`, passed on.
+-- How many points a day and a year have at most.
 use mathlib.Core.List.{List}
 use Prim.Native.Nat.{ℕ, _≤_}
 use native.Mathlib.Omega.{arith}

@@ -1,4 +1,6 @@
-// A year's row of points, as `year_rows` has it, its availability, and whether its curve is valid.
+// The availability of a year's row of points, and whether its curve is valid.
+use blocks::HALF_HOURS;
+use blocks::NO_POINT;
 ghost use mathlib.Core.Path.{_≡_};
 ghost use Prim.Native.Nat.{_<_};
 ghost use lib.ListN.{getD};
@@ -8,14 +10,10 @@ use blocks::row;
 use note::PeakDay;
 
 // Points present and points expected in a year.
-pub struct Counts {
+pub(crate) struct Counts {
     pub present: usize,
     pub expected: usize,
 }
-
-const MISSING: u32 = 4294967295;
-
-const HALF_HOURS: usize = 20;
 
 fn there(row: &[u32], w: usize, h: usize) -> bool
     requires { ⌜ (w < 152) × (h < 20) ⌝ }
@@ -25,7 +23,7 @@ fn there(row: &[u32], w: usize, h: usize) -> bool
     if row.len() <= i {
         return false;
     }
-    row[i] != MISSING
+    row[i] != NO_POINT
 }
 
 // How many points of a day are there.

@@ -1,7 +1,8 @@
-// validity: curves, winters, intervals, year_dates.
-mod curves; // a year's row of points, as `year_rows` has it, its availability, and whether its curve is valid
-mod columns; // readings as columns, and the winter days between them
-mod intervals; // what a close needs of the readings, which come as columns of positions on the axis, indexes and kinds
+// Which years are valid (document 01, Validity): whether a curve year has enough of its peak points, and whether the intervals between readings cover an
+// index year.
+mod curves; // how many peak points a year's row has, and whether its curve is valid
+mod columns; // the readings as columns, and the winter days between two neighbours
+mod intervals; // whether an index year is valid; the energy and the daily total around each day
 mod year_dates; // how many dates a year has, for 15 and 16
 
 pub use columns::in_winter;
@@ -9,7 +10,7 @@ pub use columns::interval_count;
 pub use columns::is_set;
 pub use columns::place;
 pub use curves::is_valid;
-pub use intervals::days::spread;
-pub use intervals::index::index_valid;
+pub use intervals::index_valid;
+pub use intervals::spread;
 pub use year_dates::all_dates;
 pub use year_dates::all_winter_dates;

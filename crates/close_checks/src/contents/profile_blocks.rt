@@ -2,12 +2,11 @@
 use crate::contents::winter_blocks::day_end;
 use crate::contents::winter_blocks::is_dated;
 use crate::day_contents::all_zero;
+use blocks::HALF_HOURS;
 use calendar::Years;
 ghost use mathlib.Core.Path.{_≡_};
 ghost use Prim.Native.Nat.{_≤_};
 ghost use Rattle.meaning.specs.Record.{slotsFit};
-
-const HALF_HOURS: usize = 20;
 
 // A profile value of a day that has a date can be any: no u16 is above 65,535.
 pub(crate) fn slots_fit(slots: &[u16], history: Years) -> bool

@@ -1,15 +1,12 @@
 // What 1 asks at the close of the points: at a date of the history what C can give, elsewhere missing.
+use blocks::HALF_HOURS;
+use blocks::ROW;
 ghost use mathlib.Core.Path.{_≡_};
 ghost use Prim.Native.Nat.{_+_, _≤_, min};
 ghost use Rattle.meaning.specs.Record.{pointsFit};
 ghost use Rattle.close_checks.specs.Winter.{datedAt};
 use crate::day_contents::points_on_day;
 use calendar::Years;
-
-// 152 winter places of 20 half-hours.
-const ROW: usize = 3040;
-
-const HALF_HOURS: usize = 20;
 
 // Whether a place in rows of winter dates has a date of the history: the first row is that of the year first.
 pub(crate) fn is_dated(history: Years, first: u64, place: usize) -> bool

@@ -27,7 +27,7 @@ ghost use Rattle.line_steps.specs.Places.{pointsLate};
 ghost use Rattle.line_steps.specs.PointAnswers.{dateRefused, dateJudged};
 
 // C or P, without its values: the winter place of its date, and its key, which must rise.
-pub struct DateJudged {
+pub(crate) struct DateJudged {
     pub number: u64,
     pub year: u64,
     pub place: usize,

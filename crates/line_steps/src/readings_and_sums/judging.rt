@@ -18,7 +18,7 @@ ghost use Rattle.line_checks.specs.Before.{OfTag, beforeRising, beforeReading};
 ghost use Rattle.line_steps.specs.ReadingAnswers.{readingRefused, readingJudged, dailyJudged};
 
 // X: the kind is its letter.
-pub struct ReadingJudged {
+pub(crate) struct ReadingJudged {
     pub number: u64,
     pub position: usize,
     pub index: u64,
@@ -27,7 +27,7 @@ pub struct ReadingJudged {
 }
 
 // D.
-pub struct DailyJudged {
+pub(crate) struct DailyJudged {
     pub number: u64,
     pub year: u64,
     pub position: usize,
