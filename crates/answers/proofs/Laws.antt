@@ -5,7 +5,7 @@ use Prim.Native.Nat.{ℕ}
 use native.Mathlib.Omega.{arith}
 use lib.Dec.{T, eqb, eqb→eq}
 use lib.ListN.{length}
-use Rattle.meaning.specs.Blocks.{World, sizesFit, pointsSize, slotsSize, dailySize, readingsSize, curveSize}
+use Rattle.meaning.specs.Blocks.{World, sizesFit}
 use Rattle.answers.specs.Stops.{lengthsFit, earlyStop, closeStop}
 
 -- ---- sizes
@@ -17,35 +17,6 @@ six true true true false e f t = absurd t
 six true true true true false f t = absurd t
 six true true true true true false t = absurd t
 six true true true true true true t = (tt, tt, tt, tt, tt, tt)
-
--- the length of each block
-pub record Sized (w : World) : Type 0 where
-  pub near : length (w .near) ≡ pointsSize
-  pub far : length (w .far) ≡ pointsSize
-  pub slots : length (w .slots) ≡ slotsSize
-  pub daily : length (w .daily) ≡ dailySize
-  pub readings : length (w .readings) ≡ readingsSize
-  pub curve : length (w .curve) ≡ curveSize
-
-pub sized : (w : World) → sizesFit w ≡ true → Sized w
-unfolding sizesFit
-sized w e =
-    let t = six
-    (eqb (length (w .near)) pointsSize)
-    (eqb (length (w .far)) pointsSize)
-    (eqb (length (w .slots)) slotsSize)
-    (eqb (length (w .daily)) dailySize)
-    (eqb (length (w .readings)) readingsSize)
-    (eqb (length (w .curve)) curveSize)
-    (rw e tt) in
-    record {
-      near = eqb→eq (length (w .near)) pointsSize (t .0);
-      far = eqb→eq (length (w .far)) pointsSize (t .1);
-      slots = eqb→eq (length (w .slots)) slotsSize (t .2);
-      daily = eqb→eq (length (w .daily)) dailySize (t .3);
-      readings = eqb→eq (length (w .readings)) readingsSize (t .4);
-      curve = eqb→eq (length (w .curve)) curveSize (t .5);
-    }
 
 -- the test on lengths is the test on the lists
 pub by-lengths : (w : World) → lengthsFit (length (w .near)) (length (w .far)) (length (w .slots)) (length (w .daily)) (length (w .readings)) (length (w .curve)) ≡ sizesFit w

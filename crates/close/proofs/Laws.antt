@@ -6,7 +6,7 @@ use Prim.Native.Nat.{ℕ, _≤_}
 use native.Mathlib.Omega.{arith}
 use lib.Dec.{T, eqb, leb, leb→le, eqb→eq}
 use lib.ListN.{length}
-use Rattle.lists.proofs.Tests.{and-parts}
+use Rattle.lists.proofs.Tests.{and-parts, passed}
 use Rattle.calendar.specs.declared.Years.{Years}
 use Rattle.calendar.specs.Spans.{historyYears, axisYears}
 use Rattle.meaning.specs.Filing.{Reading}
@@ -19,7 +19,8 @@ use Rattle.close_checks.specs.Contents.{contentsIn}
 use Rattle.close_checks.proofs.ContentLaws.{contents-fit}
 use Rattle.answers.specs.Stops.{lengthsFit}
 use Rattle.answers.proofs.Gave.{al-given, filiere-given}
-use Rattle.answers.proofs.Laws.{sized, by-lengths, parts}
+use Rattle.meaning.proofs.Sizes.{sizes-of}
+use Rattle.answers.proofs.Laws.{by-lengths, parts}
 use Rattle.close.specs.Stops.{allFit}
 
 -- ---- what a record within its ranges has
@@ -67,7 +68,7 @@ all-fit s w r ps xs ks l same = rw (← l, by-lengths w) (go (sizesFit w) refl)
     held = unfold contentsFit readingsOf in refl
 
     go : (b : Bool) → sizesFit w ≡ b → (b && (recFits s && contentsFit s (lent (readingsIn ps xs ks readingsSize)))) ≡ (b && (recFits s && contentsFit s w))
-    go true e = ap (λ (x : Bool). recFits s && x) (ap (λ (rs : List Reading). contentsFit s (lent rs)) (same (sym l ∙ sized w e .readings)) ∙ held)
+    go true e = ap (λ (x : Bool). recFits s && x) (ap (λ (rs : List Reading). contentsFit s (lent rs)) (same (sym l ∙ sizes-of w (passed _ e) .readings)) ∙ held)
     go false e = refl
 
 -- by the columns

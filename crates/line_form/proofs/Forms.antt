@@ -4,7 +4,7 @@ use mathlib.Core.Bool.{Bool, true, false, not, _&&_, _||_}
 use mathlib.Core.List.{List, [], _∷_}
 use Prim.Native.Nat.{ℕ, zero, suc}
 use lib.ListN.{replicate}
-use Rattle.lists.proofs.Tests.{and-true}
+use Rattle.lists.proofs.Tests.{and-true, and-assoc}
 use Rattle.text.specs.Fields.{upTo, past, restAt, fieldAt, reads, edition}
 use Rattle.text.specs.Numbers.{isNumber}
 use Rattle.meaning.specs.Line.{Line, Tag, S, X, D, B, R, E, Form, formsOf, inForm, someField, tagOf, meterOf, isMeter, kindOf, isKind}
@@ -23,10 +23,6 @@ in-forms-cons m ms t = go (inForm m (upTo t)) (someField (λ k f. not (inForm k 
 in-forms-nil : (t : List ℕ) → inForms [] t ≡ true
 unfolding inForms someField
 in-forms-nil t = refl
-
-and-assoc : (a b c : Bool) → ((a && b) && c) ≡ (a && (b && c))
-and-assoc true b c = refl
-and-assoc false b c = refl
 
 pub in-forms-snoc : (k : ℕ) (m : Form) (t : List ℕ) → inForms (replicate (suc k) m) t ≡ (inForms (replicate k m) t && inForm m (fieldAt t k))
 unfolding fieldAt restAt

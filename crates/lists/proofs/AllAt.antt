@@ -13,11 +13,7 @@ use lib.Seq.{drop-cons, drop-drop, getD-drop}
 use borrow.Author.Tests.{leb-true, leb-false}
 use Rattle.lists.specs.Lists.{all, allAt}
 use Rattle.lists.proofs.Snoc.{allAt-at}
-use Rattle.lists.proofs.Tests.{is-true}
-
-and-assoc : (a b c : Bool) → (a && (b && c)) ≡ ((a && b) && c)
-and-assoc true b c = refl
-and-assoc false b c = refl
+use Rattle.lists.proofs.Tests.{is-true, and-assoc}
 
 -- ---- the elements that are left of a list, one less with each turn
 pub allAt-on : {A : Type 0} (p : ℕ → A → Bool) (xs : List A) (i : ℕ) (d : A) → i < length xs → allAt p i (drop i xs) ≡ (p i (getD xs i d) && allAt p (i + 1) (drop (i + 1) xs))
@@ -42,7 +38,7 @@ unfolding allAt
 allAt-parts p zero i xs = rw (add-zero i)
 allAt-parts p (suc k) i [] = refl
 allAt-parts p (suc k) i (x ∷ xs) =
-    rw (allAt-parts p k (suc i) xs, suc-add i k, add-suc i k) (and-assoc (p i x) (allAt p (suc i) (take k xs)) (allAt p (suc (i + k)) (drop k xs)))
+    rw (allAt-parts p k (suc i) xs, suc-add i k, add-suc i k) (sym (and-assoc (p i x) (allAt p (suc i) (take k xs)) (allAt p (suc (i + k)) (drop k xs))))
 
 -- the places from i to the one before i + k, and those after them, of a list that may be shorter
 pub allAt-run : {A : Type 0} (p : ℕ → A → Bool) (xs : List A) (i k e : ℕ) → i ≤ e → (e ≡ i + k) ⊎ ((e ≡ length xs) × (length xs ≤ i + k))

@@ -40,6 +40,10 @@ pub and-false : (b : Bool) → (b && false) ≡ false
 and-false true = refl
 and-false false = refl
 
+pub and-assoc : (a b c : Bool) → ((a && b) && c) ≡ (a && (b && c))
+and-assoc true b c = refl
+and-assoc false b c = refl
+
 -- ---- one of two
 pub or-right : (a b : Bool) → T b → T (a || b)
 or-right true b t = tt

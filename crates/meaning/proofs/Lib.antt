@@ -1,4 +1,5 @@
 pub mod Lines
+pub mod Sizes
 pub mod Passed
 pub mod Accepted
 pub mod Pins

@@ -23,7 +23,7 @@ use Rattle.meaning.proofs.Accepted.{AxisLine}
 use Rattle.demands.proofs.Held.Spans.{axis-row}
 use Rattle.demands.proofs.Held.Earlier.{Short, fails, short-key, date-key, names, unnamed}
 use Rattle.demands.proofs.Held.Rows.{where-same, stored-or-not}
-use Rattle.demands.proofs.Held.Sizes.{Sizes}
+use Rattle.meaning.proofs.Sizes.{Sizes}
 
 -- no earlier D line names the date place
 date-free : (l m : Line) (y p : ℕ) → Short D l m → yearOn l ≡ y → placeOn l ≡ p → (is D (tagOf m) && (eqb (yearOn m) y && eqb (placeOn m) p)) ≡ false

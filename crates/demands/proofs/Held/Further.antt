@@ -22,7 +22,8 @@ use Rattle.demands.proofs.Held.Parts.{HeldRec, HeldWorld}
 use Rattle.demands.proofs.Held.Order.{clear}
 use Rattle.demands.proofs.Held.Sites.{placed, Onward, history-held, history-after, axis-held, axis-after, axis-lines, axis-longer}
 use Rattle.demands.proofs.Held.Spans.{history-count, axis-count}
-use Rattle.demands.proofs.Held.Sizes.{Sizes, sizes-of, sizes-fit, sizes-after}
+use Rattle.meaning.proofs.Sizes.{Sizes, sizes-of, sizes-fit}
+use Rattle.demands.proofs.Held.Sizes.{sizes-after}
 use Rattle.demands.proofs.Held.Points.{point-step}
 use Rattle.demands.proofs.Held.Profiles.{profile-step}
 use Rattle.demands.proofs.Held.Daily.{daily-step}

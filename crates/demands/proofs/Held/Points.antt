@@ -25,7 +25,7 @@ use Rattle.demands.proofs.Held.Parts.{Dated}
 use Rattle.demands.proofs.Held.Spans.{near-row, far-row}
 use Rattle.demands.proofs.Held.Earlier.{Short, names, unnamed, at-place, is-place, line-placed, winter-free}
 use Rattle.demands.proofs.Held.Rows.{where-same, within, is-within, row-stored, row-kept}
-use Rattle.demands.proofs.Held.Sizes.{Sizes}
+use Rattle.meaning.proofs.Sizes.{Sizes}
 
 -- ---- a point and its code
 pub length-codes : (l : Line) → length (pointCodes l) ≡ 20

@@ -22,7 +22,7 @@ use Rattle.demands.proofs.Held.Parts.{Dated}
 use Rattle.demands.proofs.Held.Spans.{history-row}
 use Rattle.demands.proofs.Held.Earlier.{Short, names, unnamed, at-place, is-place, line-placed, winter-free}
 use Rattle.demands.proofs.Held.Rows.{where-same, stored-or-not, within, is-within, row-stored, row-kept}
-use Rattle.demands.proofs.Held.Sizes.{Sizes}
+use Rattle.meaning.proofs.Sizes.{Sizes}
 
 pub length-values : (l : Line) → length (profileValues l) ≡ 20
 unfolding profileValues

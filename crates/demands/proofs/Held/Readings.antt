@@ -18,7 +18,7 @@ use Rattle.meaning.specs.File.{axisIn, readingOn, readingsIn}
 use Rattle.meaning.specs.Blocks.{World, readingsSize, freshReading, readingsOf}
 use Rattle.meaning.specs.Record.{Rec, axisOfRec}
 use Rattle.meaning.specs.Calls.{positionOn, readingAt, worldAfter}
-use Rattle.demands.proofs.Held.Sizes.{Sizes}
+use Rattle.meaning.proofs.Sizes.{Sizes}
 
 -- ---- of the lines: one more where the line is X
 pub readings-snoc : (ls : List Line) (l : Line) → axisIn (ls ++ (l ∷ [])) ≡ axisIn ls → readingsIn (ls ++ (l ∷ [])) ≡ readingsIn ls ++ present (readingOn (axisIn ls) l ∷ [])

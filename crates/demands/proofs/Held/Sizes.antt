@@ -3,53 +3,14 @@ use mathlib.Core.Path.{_≡_, refl, _∙_}
 use mathlib.Core.Bool.{Bool, true, false, cond}
 use mathlib.Core.List.{List}
 use Prim.Native.Nat.{ℕ}
-use lib.Dec.{T, eqb, eqb→eq}
 use lib.ListN.{length, set, length-set, length-replicate}
 use lib.Seq.{sets, length-sets}
-use borrow.Author.Tests.{eq-eqb}
-use Rattle.lists.proofs.Tests.{and-parts}
 use Rattle.meaning.specs.Level.{missingEntry}
 use Rattle.meaning.specs.Line.{Line, Tag, X, D, is, numberAt}
-use Rattle.meaning.specs.Blocks.{World, missingPoint, pointsSize, slotsSize, dailySize, readingsSize, curveSize, sizesFit, freshReading, freshWorld}
+use Rattle.meaning.specs.Blocks.{World, missingPoint, pointsSize, slotsSize, dailySize, readingsSize, curveSize, freshReading, freshWorld}
 use Rattle.meaning.specs.Record.{Rec, axisOfRec}
 use Rattle.meaning.specs.Calls.{positionOn, readingAt, worldAfter}
-
-pub record Sizes (w : World) : Type 0 where
-  pub near : length (w .near) ≡ pointsSize
-  pub far : length (w .far) ≡ pointsSize
-  pub slots : length (w .slots) ≡ slotsSize
-  pub daily : length (w .daily) ≡ dailySize
-  pub readings : length (w .readings) ≡ readingsSize
-  pub curve : length (w .curve) ≡ curveSize
-
-pub sizes-of : (w : World) → T (sizesFit w) → Sizes w
-unfolding sizesFit
-sizes-of w t =
-    let a = and-parts (eqb (length (w .near)) pointsSize) _ t in
-    let b = and-parts (eqb (length (w .far)) pointsSize) _ (a .1) in
-    let c = and-parts (eqb (length (w .slots)) slotsSize) _ (b .1) in
-    let d = and-parts (eqb (length (w .daily)) dailySize) _ (c .1) in
-    let e = and-parts (eqb (length (w .readings)) readingsSize) _ (d .1) in
-    record {
-      near = eqb→eq _ _ (a .0);
-      far = eqb→eq _ _ (b .0);
-      slots = eqb→eq _ _ (c .0);
-      daily = eqb→eq _ _ (d .0);
-      readings = eqb→eq _ _ (e .0);
-      curve = eqb→eq _ _ (e .1);
-    }
-
-pub sizes-fit : (w : World) → Sizes w → T (sizesFit w)
-unfolding sizesFit
-sizes-fit w z =
-    rw (
-      eq-eqb (length (w .near)) pointsSize (z .near),
-      eq-eqb (length (w .far)) pointsSize (z .far),
-      eq-eqb (length (w .slots)) slotsSize (z .slots),
-      eq-eqb (length (w .daily)) dailySize (z .daily),
-      eq-eqb (length (w .readings)) readingsSize (z .readings),
-      eq-eqb (length (w .curve)) curveSize (z .curve),
-    ) tt
+use Rattle.meaning.proofs.Sizes.{Sizes}
 
 pub fresh-sizes : Sizes freshWorld
 unfolding freshWorld

@@ -14,7 +14,8 @@ use Rattle.meaning.specs.Record.{Rec, emptyRec, freshRec, isTaken, siteOfRec, h
 use Rattle.meaning.specs.Sheet.{noCurve}
 use Rattle.meaning.specs.Calls.{talliesAfter, recAfter, worldAfter}
 use Rattle.demands.proofs.Held.Parts.{HeldWorld, Dated}
-use Rattle.demands.proofs.Held.Sizes.{sizes-fit, fresh-sizes}
+use Rattle.meaning.proofs.Sizes.{sizes-fit}
+use Rattle.demands.proofs.Held.Sizes.{fresh-sizes}
 use Rattle.demands.proofs.Held.Contents.{contents-fit, fresh-contents}
 use Rattle.demands.proofs.Held.Opening.{fresh-held, none-in, first-in}
 
