@@ -6,7 +6,6 @@ mod stores; // the profile values of a P line and the sum of a D line, stored
 pub use point_rows::put_points;
 pub use stores::put_profiles;
 pub use stores::put_sum;
-pub use year_rows::holds_year;
 pub use year_rows::row;
 
 // A missing point, as the near and the far block hold it.

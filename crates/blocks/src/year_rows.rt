@@ -5,7 +5,7 @@ ghost use Prim.Native.Nat.{_<_, _*_};
 ghost use Rattle.blocks.specs.Rows.{holdsYear, part, rowOf};
 
 // Whether the two blocks hold the year for the AL.
-pub fn holds_year(al: u64, year: u64) -> bool
+pub(crate) fn holds_year(al: u64, year: u64) -> bool
     ensures { λ r. ⌜ r ≡ holdsYear al year ⌝ }
 {
     if al < 2021 {

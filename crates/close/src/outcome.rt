@@ -4,7 +4,7 @@
 mod file; // what the close of a file tells
 mod told; // what the close hands back of it
 
-pub use file::Closing;
+pub(crate) use file::Closing;
 pub use file::Year;
 pub(crate) use file::no_years;
 pub(crate) use file::refused;

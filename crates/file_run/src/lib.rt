@@ -3,5 +3,6 @@ mod reading; // the loop over what is read
 mod ends; // when a run stops reading, and what it hands out
 
 pub use ends::End;
+pub use ends::Filed;
 pub use ends::write;
 pub use reading::run;

@@ -11,7 +11,7 @@ pub struct Year {
 }
 
 // A refusal's number, and 0 else; or number 0 with the level in W, the points counted and the years.
-pub struct Closing {
+pub(crate) struct Closing {
     pub number: u64,
     pub level: u64,
     pub points: u64,

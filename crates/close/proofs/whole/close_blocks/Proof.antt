@@ -1,6 +1,6 @@
 use borrow.Author.Needs.{needs}
 use Rattle.readings.proofs.Long.{long-columns}
-use Rattle.close.proofs.EndingCalls.{refused-close, fits-file, told-close}
+use Rattle.close.proofs.WholeClose.{refused-close, fits-file, told-close}
 use Rattle.close.proofs.whole.close_blocks.Statement.{statement}
 use Rattle.close.proofs.whole.close_blocks.Tie as tie
 

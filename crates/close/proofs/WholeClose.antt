@@ -25,7 +25,7 @@ use Rattle.progress.specs.ProgressViews.{recOf}
 use Rattle.close.specs.declared.outcome.file.Closing.{Closing}
 use Rattle.close.specs.Closes as file
 use Rattle.close.specs.Closes.{FileFits, reportShown, closingMeant}
-use Rattle.close.proofs.ClosingCalls.{filing-is, file-fits, close-of, close-unended, close-refuses, close-reports}
+use Rattle.close.proofs.FileClose.{filing-is, file-fits, close-of, close-unended, close-refuses, close-reports}
 use Rattle.answers.specs.declared.Answer.the-variants.{Refused, Reports}
 use Rattle.answers.specs.Stops.{lengthsFit}
 use Rattle.answers.proofs.Laws.{six, parts}
