@@ -1,6 +1,6 @@
 #!/usr/bin/env python3
 # Writes the proof of an entry by hand-walk: a function with no branch and no loop that takes a record by value and lent slices, calls other
-# functions with slices that it gives up for good, lengths and values, and returns a call's result or a field of one.
+# functions with slices that it does not use again, lengths and values, and returns a call's result or a field of one.
 # usage: entry.py DESCRIPTION.py > Proof.antt     (DESCRIPTION.py sets D, see line.py; it reads the MIR by `rt mir`)
 import sys, re, subprocess, runpy, os
 sys.path.insert(0, os.path.dirname(os.path.abspath(__file__)))
@@ -65,7 +65,7 @@ def main():
     lead={}       # lifetime -> the first parameter that has it, by which its token is named
     for p in refs: lead.setdefault(lt[p[0]],p[0])
     def tk_of(p): return 't:'+lead[lt[p]]
-    def firsts(gs):    # of a callee's references, one for each of its lifetimes
+    def firsts(gs):    # the first of a callee's references for each of its lifetimes
         r=[];seen=set()
         for g in gs:
             l_=g[2] if len(g)>2 else g[1]
@@ -107,7 +107,7 @@ def main():
     calls=D['calls']
     # ------------------------------------------------------------ helpers on parameters
     kind={p[0]:p for p in P}
-    held={}       # a slice that a call handed back: its name -> the call. It has the lifetime of the parameter c['of']
+    held={}       # a slice that a call returned: its name -> the call. It has the lifetime of the parameter c['of']
     for c in calls:
         if c.get('res')=='slice':
             held[c['slice']]=c; kind[c['slice']]=(c['slice'],'held',kind[c['of']][2]); lt[c['slice']]=lt[c['of']]
@@ -553,7 +553,7 @@ def main():
         if t_.get('decl-mod'): imp.append('use %s.{%s}'%(t_['decl-mod'],t_['decl']))
     for a,t_ in T.items():
         imp.append('use %s as %s'%(t_['mod'],a)); imp.append('use %s.Laws as %s′'%(t_['mod'],a))
-    imp.append('use Rattle.readings.proofs.Gone.{%s}'%', '.join(z for z in ('full','bare','gone') if uses(z)))
+    imp.append('use Rattle.readings.proofs.WalkEnds.{%s}'%', '.join(z for z in ('full','bare','gone') if uses(z)))
     for c in calls:
         imp.append('use %s as %s'%(c['mod'],c['al'])); imp.append('use %s.Symbol as %s-def'%(c['mod'],c['al'])); imp.append('use %s.Symbol.{name as %s}'%(c['mod'],c['key'])); imp.append('use %s.Met as %s-thm'%(c['mod'],c['al']))
     imp.append('use %s%s.Key.{name as %s}'%(own,path,key)); imp.append('use %s%s as f'%(own,path)); imp.append('use %s%s.Statement as stated'%(own,path)); imp.append('use %s%s.Code as code'%(own,path)); imp.append('use %s%s.Code.Mir as pieces'%(own,path))

@@ -1,7 +1,7 @@
 #!/usr/bin/env python3
 # Writes the proof of a loop by hand-walk: a function whose first call makes a state, and which then calls one function with the state and all its
-# slices, each `&mut` lent again for the call, as long as a third function of the state answers true; it returns the state.
-# usage: loop.py DESCRIPTION.py > Proof.antt     (DESCRIPTION.py sets D, see give_lines.py; it reads the MIR by `rt mir`)
+# slices, each `&mut` lent again for the call, as long as a third function of the state returns true; it returns the state.
+# usage: loop.py DESCRIPTION.py > Proof.antt     (DESCRIPTION.py sets D, see apply_lines.py; it reads the MIR by `rt mir`)
 import sys, re, runpy, os
 sys.path.insert(0, os.path.dirname(os.path.abspath(__file__)))
 from entry import Ctx, sub, W, mir
@@ -109,7 +109,7 @@ def main():
     for p in reversed(refs): s.append(x.move(['o:'+p[0],'acc'])); s.append('fjoin ! $'); x.pop(2); x.push('acc')
     s.append(owned(O,opened,opened+'-is')); s.append('fjoin ! $ done !')
     w('  exits i e =\n      '+' '.join(z for z in s if z)); w('')
-    # ---- the first call: it is passed the first shared slice alone
+    # ---- the first call: it is passed the first shared slice only
     fr=[p for p in refs if p[0] in F['refs']]
     fa=tup([z if z in (opened,)+tuple(F['refs']) else z for z in F['args']])
     fv=tup([vals(O,opened)]+['%s ∷ []'%v(p[0]) for p in fr]+['vint w64 %s ∷ []'%z for z in F['lits']])
@@ -124,7 +124,7 @@ def main():
     for p in reversed(fr): s.append(x.move(['t:'+p[0],'tok'])); s.append('join ! $'); x.pop(2); x.push('tok')
     s.append('join ! $ frame ! $ done !')
     w('  goes-%s =\n      %s'%(F['al'],' '.join(z for z in s if z))); w('')
-    # ---- the question of the loop
+    # ---- the test of the loop
     w('  -- `%s`'%Q['fn'])
     w('  abbrev to-%s : State → %s 𝓤 H A mem run .Ghost'%(Q['al'],Q['Name'])); w('  to-%s i = ((tt, tt, tt, (i .state, tt), (%s, tt)), tt)'%(Q['al'],vals(S,'(i .state)'))); w('')
     w('  goes-%s : (i : State) → ent 𝓤 (⋆ 𝓤 H A (‵ ftrue ∷ [])) (%s 𝓤 H A mem run .pre (to-%s i))'%(Q['al'],Q['Name'],Q['al']))
@@ -146,8 +146,8 @@ def main():
     for p in reversed(refs): s.append(x.move(['t:'+p[0],'tok'])); s.append('join ! $'); x.pop(2); x.push('tok')
     s.append('join ! $ frame ! $ done !')
     w('  goes-%s %s =\n      %s'%(G['al'],gn,' '.join(z for z in s if z))); w('')
-    # ---- what falls
-    w('  -- what is left of the piece falls')
+    # ---- what decreases
+    w('  -- the rest of the piece gets shorter')
     w('  abbrev Nearer : State → State → Type 0'); w('  Nearer j i = %s < %s'%(D['measure']('j'),D['measure']('i'))); w('')
     w('  Nearer-wf : WellFounded Nearer'); w('  Nearer-wf = InvImage·wf (λ (i : State). %s) (Nat·lt-wfRel .wf)'%D['measure']('i')); w('')
     W0=lambda p:'(%s .now)'%p
@@ -181,7 +181,7 @@ def main():
     w('    abbrev Turned : State → Out → SProp 𝓤')
     w('    Turned i = afterTurn 𝓤 H (Below 𝓤 H A Nearer At i) (afterBlock 𝓤 H (afterSeq 𝓤 H (Wp 𝓤 H C Λ En pieces.t-3 (atReturn 𝓤 H En Post)) (atReturn 𝓤 H En Post)))'); w('')
     x=Ctx(); x.l=lab+order; base=list(x.l)
-    # the question is asked once, for both ways that it can be answered
+    # the test is called once, for both of its results
     def test():
         x.push('pre'); q=['nothing ! $ use1 W (raw (%s 𝓤 H A mem run .pre (to-%s i))) (goes-%s i) $'%(Q['Name'],Q['al'],Q['al'])]
         q.append('calls-at ! (fmOf 𝓤 H (W .laws) 𝓣) (%s 𝓤 H A mem run) known-%s (to-%s i) (and-then ! (%s) (no-more !)) (λ w.\n       '%(Q['Name'],Q['al'],Q['al'],ld(sl))); x.pop()
@@ -193,7 +193,7 @@ def main():
         q.append('rewrite ! %d (λ (u : Val). ‵ (fat fullShare tyBool l%s 0 u)) (ap only (bool-tells r _ is)) refl $'%(x.i('_%d'%tl),sub(tl)))
         return ' '.join(q)
     def ld(k): return 'load ! (from ! (stop !)) (look ! %d refl)'%x.i('_%d'%k)
-    # ---- a turn that calls, in lemmas over contexts written out: they are checked much faster than one long walk
+    # ---- an iteration that calls, in lemmas over contexts written out: they are checked much faster than one long walk
     bound=[('i','State','i'),('e','%s ≡ true'%D['test']('(i .state)'),'e')]; lemmas=[]; s=[]; npar=0
     now=dict(cell)
     def item(z):
@@ -280,7 +280,7 @@ def main():
         w('    %s %s =\n        %s'%(name,bn,texts[k+1])); w('')
     w('    more : (i : State) → %s ≡ true → Sq W (Tested i true) %s'%(D['test']('(i .state)'),REST))
     w('    unfolding Locals'); w('    more i e =\n        '+texts[0]); w('')
-    # ---- the turn that leaves the loop
+    # ---- the iteration that leaves the loop
     x=Ctx(); x.l=list(base); s=['leaves-loop ! (%s) $ exec ! C Λ En pieces.t-3 (atRet En Post) $\n       '%ld(tl)]
     s.append('assigns ! (of-opd ! (%s)) (from ! (stop !)) (init ! %d refl (LL.lawful %s.the-type %s′.the-laws 𝓤 H A W .typed (i .state) _ (i .state-is) .0)) $ ret ! (look ! %d refl) $'%(ld(sl),x.i('_0'),S,S,x.i('_0')))
     s.append(x.keep(order+lab)); s.append('left i e')
@@ -375,7 +375,7 @@ def main():
     o.append('use denote.Struct.Laws as LL'); o+=D['imports']
     for a,t_ in T.items(): o.append('use %s.{%s}'%(t_['decl-mod'],t_['decl']))
     for a,t_ in T.items(): o.append('use %s as %s'%(t_['mod'],a)); o.append('use %s.Laws as %s′'%(t_['mod'],a))
-    o.append('use Rattle.readings.proofs.Gone.{full, bare, gone}')
+    o.append('use Rattle.readings.proofs.WalkEnds.{full, bare, gone}')
     for c in (F,Q,G): o+=['use %s as %s'%(c['mod'],c['al']),'use %s.Symbol as %s-def'%(c['mod'],c['al']),'use %s.Symbol.{name as %s}'%(c['mod'],c['key']),'use %s.Met as %s-thm'%(c['mod'],c['al'])]
     o+=['use %s%s.Key.{name as %s}'%(OWN,path,key),'use %s%s as f'%(OWN,path),'use %s%s.Statement as stated'%(OWN,path),'use %s%s.Code as code'%(OWN,path),'use %s%s.Code.Mir as pieces'%(OWN,path)]
     print('\n'.join(o)); print(); print(text,end='')

@@ -1,18 +1,18 @@
 # What the descriptions of the calls over own readings share.
-SITE='Rattle.site.proofs.'; OWN='Rattle.own_calls.proofs.'; SP='Rattle.own_calls.specs.'
+SITE='Rattle.record_calls.proofs.'; OWN='Rattle.own_calls.proofs.'; SP='Rattle.own_calls.specs.'
 def struct(name,mod,decl): return dict(name=name,mod=mod+name,decl=name,**{'decl-mod':decl+name})
-T=struct('Record',SITE,'Rattle.site.specs.declared.'); O=struct('Opened',SITE,'Rattle.site.specs.declared.')
+T=struct('Record',SITE,'Rattle.record_calls.specs.declared.'); O=struct('CallResult',SITE,'Rattle.record_calls.specs.declared.')
 R=struct('Reading','Rattle.readings.proofs.','Rattle.readings.specs.declared.'); AR=dict(name='[Reading;600]',array='R',n=600,decl='List Reading')
 BLOCKS=('near','far','slots','daily','curve')
-def world(p,rs): return '(world %s %s %s %s (seen %s) %s)'%(p('near'),p('far'),p('slots'),p('daily'),rs,p('curve'))
+def lentBlocks(p,rs): return '(lentBlocks %s %s %s %s (readingsView %s) %s)'%(p('near'),p('far'),p('slots'),p('daily'),rs,p('curve'))
 now=lambda z:'(%s .now)'%z
-IMPORTS=['use Rattle.readings.specs.Readings.{seen}','use Rattle.readings.specs.Columns.{world}']
+IMPORTS=['use Rattle.readings.specs.Readings.{readingsView}','use Rattle.readings.specs.Columns.{lentBlocks}']
 ISOWN='Is (Array R.the-row 600) readings′ (array-vals (LL.vals R.the-type R′.the-laws) readings′)'
-LENDS='use Rattle.readings.proofs.Lends.{Lent, lends, gives-back}'
+LENDS='use Rattle.readings.proofs.LentArrays.{Lent, lends, gives-back}'
 def at_exit(t,res='r'):
     for z in BLOCKS: t=t.replace('{%s}'%z,z+'′')
     return t.replace('{r}',res).replace('{own}','readings′')
-# the last call: what the call before it handed back (alias a, type d), with the readings
+# the last call: it joins the result of the call before it (alias a, type d) with the readings
 def packed(fn,name,a,d,res,spec,mod=OWN+'packing.',key='#own-calls·packing·'): return dict(fn=fn,al=fn.replace('_','-'),Name=name,n='₂',mod=mod+fn,key=key+fn.replace('_','-'),
   binds=[('r',d),('w','Val'),('readings′','List Reading')],proofs=[('is','Is %s.the-row r (w ∷ [])'%a),('is-own',ISOWN)],
   args=[('plain',a,'r','is','w ∷ []'),('plain','AR','readings′','is-own')],res=res,fact='{r} ≡ %s r readings′'%spec,**{'bind-terms':['r','w','readings′'],'proof-terms':['is','is-own']})

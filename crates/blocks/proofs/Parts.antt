@@ -23,7 +23,7 @@ part-short xs a h =
     rw (← length-drop a xs) (take-length (drop a xs))
     ∙ sym (take-all rowSize (drop a xs) (rw (length-drop a xs) (omega arith)))
 
--- what the test of a year says
+-- what follows where the blocks hold a year for an AL
 pub record Held (al y : ℕ) : Type 0 where
   pub first : 2021 ≤ al
   pub last : al ≤ 2026

@@ -17,7 +17,7 @@ map-at f [] n h = absurd (omega arith)
 map-at f (x ∷ l) zero h = refl
 map-at f (x ∷ l) (suc n) h = map-at f l n (omega arith)
 
--- a loop that stores f of each value of vs in turn: after n turns, and after all
+-- a loop that stores f of each value of vs: after n iterations, and after all
 pub stored-on : (f : ℕ → ℕ) (l vs r : List ℕ) (i n v : ℕ) → n < length vs → v ≡ f (getD vs n 0) → r ≡ sets l i (take n (map f vs)) → set r (i + n) v ≡ sets l i (take (n + 1) (map f vs))
 stored-on f l vs r i n v h e q =
     let m : length (take n (map f vs)) ≡ n = length-take-le n (map f vs) (rw length-map (omega arith)) in

@@ -8,10 +8,10 @@ ghost use lib.ListN.{length};
 ghost use lib.Seq.{sets};
 ghost use Rattle.blocks.specs.PointStores.{pointCode, nearPut, farPut, RowPlace};
 
-// The most that a point may be, in W.
+// The largest point, in W.
 const MOST_POWER: u64 = 100_000_000;
 
-// A point as the block has it: a code that is no point is a missing one.
+// A point as the block stores it: a code that is no point becomes a missing one.
 fn point_code(code: u64) -> u32
     ensures { λ r. ⌜ r ≡ pointCode code ⌝ }
 {
@@ -21,7 +21,7 @@ fn point_code(code: u64) -> u32
     NO_POINT
 }
 
-// 20 points in a year's row, from a date's first half-hour on.
+// Stores 20 points in a year's row, from a date's first half-hour on.
 fn store_points(row: &mut [u32], at: usize, codes: &[u64; 20])
     requires { ⌜ (length (now codes) ≡ 20) × (at + 20 ≤ length (now row)) ⌝ }
     ensures { λ _. ⌜ now (row .exit) ≡ sets (now (row .entry)) at (map pointCode (now (codes .entry))) ⌝ }
@@ -35,7 +35,7 @@ fn store_points(row: &mut [u32], at: usize, codes: &[u64; 20])
     }
 }
 
-// C: the year's row is a part of the near or of the far block.
+// C: stores the points in the year's row, a part of the near or of the far block.
 pub fn put_points(
     near: &mut [u32],
     far: &mut [u32],

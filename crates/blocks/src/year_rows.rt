@@ -20,7 +20,7 @@ pub(crate) fn holds_year(al: u64, year: u64) -> bool
     year <= al - 5
 }
 
-// The i-th row of a block, or what there is of it.
+// The i-th row of a block, or as much of it as the block has.
 fn row_part(block: &[u32], i: u64) -> &[u32]
     requires { ⌜ i < 10 ⌝ }
     ensures { λ r. ⌜ now r ≡ part (now (block .entry)) (3040 * i) ⌝ }

@@ -22,7 +22,7 @@ pub use Positions.{among-words, among-by-count, axis-among, length-5-10, Known, 
 pub use Positions.{HistoryBounds, history-bounds, history-short, history-year, known-axis, no-axis, AxisBounds, axis-bounds, AxisRange, axis-range}
 -- positions on the axis
 pub use Positions.{PositionParts, position-parts, position-back, year-among, earlier-position}
--- what an answer tells
+-- what an answer says
 pub use Answers.{date-place-at, date-place-nowhere, winter-place-at, winter-place-nowhere, winter-date-at, winter-date-nowhere}
 pub use Answers.{day-of, day-nowhere, winter-day-of, winter-day-nowhere}
 pub use Answers.{position-at, position-nowhere, DateOn, date-on, date-nowhere, place-below}

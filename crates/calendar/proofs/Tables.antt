@@ -13,7 +13,7 @@ use borrow.Author.Tests.{ltb-true, ltb-false}
 use Rattle.lists.specs.Lists.{all, count, tab, range}
 use Rattle.lists.proofs.Tests.{is-true, and-left, and-right}
 
--- a test that asks b only where a holds
+-- a test that checks b only where a holds
 pub given : (a b : Bool) → T (not a || b) → T a → T b
 given true b t h = t
 given false b t h = absurd h

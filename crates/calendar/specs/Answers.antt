@@ -1,4 +1,4 @@
--- What the calendar answers: a place, a day or a date of the axis, and Nowhere where there is none (document 01, Words, and the
+-- What the calendar returns: a place, a day or a date of the axis, and Nowhere where there is none (document 01, Words, and the
 -- rows and positions of Calls and the lines of a file).
 use mathlib.Core.Bool.{Bool, true, false, _&&_}
 use Prim.Native.Nat.{ℕ, _*_}

@@ -12,7 +12,7 @@ leap y = eqb (y % 4) 0 && (not (eqb (y % 100) 0) || eqb (y % 400) 0)
 unfoldable pub monthLengths : List ℕ
 monthLengths = 0 ∷ 31 ∷ 29 ∷ 31 ∷ 30 ∷ 31 ∷ 30 ∷ 31 ∷ 31 ∷ 30 ∷ 31 ∷ 30 ∷ 31 ∷ []
 
--- the most days that a month can have: 0 where there is no such month
+-- the largest number of days that a month can have: 0 where there is no such month
 unfoldable pub longest : ℕ → ℕ
 longest m = getD monthLengths m 0
 
@@ -29,3 +29,10 @@ isDay m d = leb 1 d && leb d (longest m)
 -- winter is January, February, March, November, December (document 01, Words)
 unfoldable pub isWinter : ℕ → Bool
 isWinter m = (leb 1 m && leb m 3) || (leb 11 m && leb m 12)
+
+-- ---- how many dates a year has, in winter and in all (document 01, 15)
+unfoldable pub allWinterDates : ℕ → ℕ
+allWinterDates y = cond (leap y) 152 151
+
+unfoldable pub allDates : ℕ → ℕ
+allDates y = cond (leap y) 366 365

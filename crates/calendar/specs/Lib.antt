@@ -1,5 +1,5 @@
 pub mod Dates
 pub mod Places
-pub mod Words
+pub mod Restated
 pub mod Spans
 pub mod Answers

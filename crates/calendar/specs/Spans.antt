@@ -5,7 +5,7 @@ use lib.Dec.{eqb, leb, ltb}
 use Rattle.calendar.specs.Places.{datePlace}
 use Rattle.calendar.specs.declared.Years.{Years}
 
--- some years in a row
+-- some consecutive years
 abbrev pub years : ℕ → ℕ → Years
 years f n = record { first = f; count = n }
 

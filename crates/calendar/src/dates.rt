@@ -17,7 +17,7 @@ pub fn is_leap(year: u64) -> bool
     year % 400 == 0
 }
 
-// The most days that the month can have: 0 where there is no such month.
+// The largest number of days that the month can have: 0 where there is no such month.
 fn longest_month(month: u64) -> u64
     ensures { λ r. ⌜ r ≡ longest month ⌝ }
 {
@@ -59,7 +59,7 @@ pub(crate) fn is_day(month: u64, day: u64) -> bool
     day <= longest_month(month)
 }
 
-// January, February, March, November, December.
+// Whether the month is January, February, March, November or December.
 pub fn is_winter(month: u64) -> bool
     ensures { λ r. ⌜ r ≡ isWinter month ⌝ }
 {

@@ -1,6 +1,7 @@
 // Dates and where they stand: which dates there are, their places in a year's rows, the years of a site's history and axis, and positions on the axis.
 // 29 February has a place in every year, so that a place is the same date in each.
 mod dates; // leap years, months, dates and winter
+mod year_dates; // how many dates a year has
 mod rows; // the places of a year's rows, 0 to 365 for dates and 0 to 151 for winter dates, and which of them a year has
 mod places; // the place of a date, and the date at a place
 mod spans; // the years of a site's history and axis
@@ -22,8 +23,10 @@ pub use spans::axis;
 pub use spans::history;
 pub use spans::history_length;
 pub use spans::is_among;
+pub use year_dates::all_dates;
+pub use year_dates::all_winter_dates;
 
-// Some years in a row: the first, and how many.
+// Some consecutive years: the first, and how many.
 pub struct Years {
     pub first: u64,
     pub count: u64,

@@ -14,7 +14,7 @@ pub fn date_place(month: u64, day: u64) -> Place
     Place::At(crate::rows::start(month) + days)
 }
 
-// Before November and December come the 214 days of April to October, which are no winter days.
+// The winter place of a day. Before November and December come the 214 days of April to October, which are no winter days.
 pub fn winter_place(month: u64, day: u64) -> Place
     ensures { λ r. ⌜ r ≡ winterPlaceOf month day ⌝ }
 {

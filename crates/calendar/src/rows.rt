@@ -46,7 +46,7 @@ pub(crate) fn month_at(place: usize) -> u64
     month
 }
 
-// Each of the 366 places has a date in every year, but for 29 February in a common year.
+// Whether the year has a date at one of the 366 places: it does at each, but for 29 February in a common year.
 pub fn has_date(year: u64, place: usize) -> bool
     ensures { λ r. ⌜ r ≡ hasDate year place ⌝ }
 {
@@ -56,7 +56,7 @@ pub fn has_date(year: u64, place: usize) -> bool
     place < 366
 }
 
-// The same of the winter places: 29 February is at place 59 there too.
+// The same for the winter places: 29 February is at place 59 there too.
 pub fn has_winter_date(year: u64, place: usize) -> bool
     ensures { λ r. ⌜ r ≡ hasWinterDate year place ⌝ }
 {

@@ -3,7 +3,7 @@ use crate::Years;
 ghost use mathlib.Core.Path.{_≡_};
 ghost use Rattle.calendar.specs.Spans.{among, historyLength, isKnown, historyYears, axisYears};
 
-// Run of river and pondage hydro look back ten years.
+// How many years the history has: ten for run of river and pondage hydro, else five.
 pub fn history_length(filiere: u64) -> u64
     ensures { λ r. ⌜ r ≡ historyLength filiere ⌝ }
 {
@@ -31,7 +31,7 @@ fn is_known(al: u64, filiere: u64) -> bool
     filiere <= 11
 }
 
-// The history ends at AL-5. An AL or a filière that is not known has none.
+// The history years, which end at AL-5; none for an AL or a filière that is not known.
 pub fn history(al: u64, filiere: u64) -> Years
     ensures { λ r. ⌜ r ≡ historyYears al filiere ⌝ }
 {
@@ -45,7 +45,7 @@ pub fn history(al: u64, filiere: u64) -> Years
     }
 }
 
-// One year more on each side of the history.
+// The axis years: one more on each side of the history.
 pub fn axis(al: u64, filiere: u64) -> Years
     ensures { λ r. ⌜ r ≡ axisYears (historyYears al filiere) ⌝ }
 {
@@ -59,7 +59,7 @@ pub fn axis(al: u64, filiere: u64) -> Years
     }
 }
 
-// By the difference, since the sum of first and count can be too large for a u64.
+// Whether a year is one of them: by the difference, since the sum of first and count can be too large for a u64.
 pub fn is_among(years: Years, year: u64) -> bool
     ensures { λ r. ⌜ r ≡ among years year ⌝ }
 {

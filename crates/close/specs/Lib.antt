@@ -1,5 +1,5 @@
-pub mod FileTold
+pub mod FileOutcomes
 pub mod Ends
-pub mod Stops
+pub mod FirstRefusals
 pub mod Closes
 pub mod ReportRows

@@ -1,23 +1,25 @@
--- The report of a file by what the walk over its years has found (document 01, Calls; The printed sheet).
+-- The report of a file, from the totals of its curve (document 01, Calls; The printed sheet).
 use mathlib.Core.List.{List}
 use Prim.Native.Nat.{ℕ, _+_}
 use lib.ListN.{getD}
 use Rattle.calendar.specs.declared.Years.{Years}
 use Rattle.meaning.specs.Text.{letterOfCase}
-use Rattle.history.specs.Cases.{meantCase, caseOfCode}
-use Rattle.curve.specs.declared.Filling.{Filling}
+use Rattle.history.specs.declared.cases.Case.{Case}
+use Rattle.history.specs.declared.cases.Case.the-variants.{M}
+use Rattle.history.specs.Cases.{caseView}
+use Rattle.history.specs.Years.{byHistory}
+use Rattle.curve.specs.declared.CurveTotals.{CurveTotals}
 use Rattle.curve.specs.Places.{nccOf}
-use Rattle.close.specs.declared.outcome.file.Year.{Year}
-use Rattle.close.specs.declared.outcome.file.Closing.{Closing}
-use Rattle.close.specs.FileTold.{yearRow, noYear, closing}
-use Rattle.history.specs.Marks.{byHistory}
+use Rattle.close.specs.declared.outcome.file.YearRow.{YearRow}
+use Rattle.close.specs.declared.outcome.file.FileOutcome.{FileOutcome}
+use Rattle.close.specs.FileOutcomes.{yearRow, noYear, closing}
 
--- by the code of a year's case and its points present
-unfoldable pub rowIn : ℕ → ℕ → ℕ → Year
-rowIn y code present = yearRow y (letterOfCase (meantCase (caseOfCode code))) present
+-- from a year's case and its points present
+unfoldable pub rowIn : ℕ → Case → ℕ → YearRow
+rowIn y case present = yearRow y (letterOfCase (caseView case)) present
 
-unfoldable pub rowsIn : Years → List ℕ → List ℕ → List Year
-rowsIn h codes present = byHistory (h .count) noYear (λ k. rowIn (h .first + k) (getD codes k 0) (getD present k 0))
+unfoldable pub rowsIn : Years → List Case → List ℕ → List YearRow
+rowsIn history cases present = byHistory (history .count) noYear (λ k. rowIn (history .first + k) (getD cases k M) (getD present k 0))
 
-unfoldable pub reportedBy : ℕ → ℕ → Years → List ℕ → Filling → Closing
-reportedBy al f h codes x = closing 0 (nccOf al f (x .sum) (x .counted)) (x .counted) (rowsIn h codes (x .present))
+unfoldable pub reportedBy : ℕ → ℕ → Years → List Case → CurveTotals → FileOutcome
+reportedBy al f history cases x = closing 0 (nccOf al f (x .sum) (x .counted)) (x .counted) (rowsIn history cases (x .present))

@@ -1,19 +1,19 @@
-// A report of a file that nothing refuses: level, points and years (document 01, Calls and the lines of a file).
-use crate::outcome::Closing;
-use crate::outcome::Year;
+// The report of a file that is not refused: level, points and years (document 01, Calls and the lines of a file).
+use crate::outcome::FileOutcome;
+use crate::outcome::YearRow;
 use crate::outcome::no_years;
 use calendar::Years;
-use curve::Filling;
+use curve::CurveTotals;
 use history::Case;
 ghost use mathlib.Core.Path.{_≡_};
 ghost use Prim.Native.Nat.{_≤_, _<_, _*_};
 ghost use Rattle.meaning.specs.Text.{letterOfCase};
-ghost use Rattle.history.specs.Cases.{meantCase};
+ghost use Rattle.history.specs.Cases.{caseView};
 ghost use Rattle.close.specs.ReportRows.{rowIn, rowsIn, reportedBy};
 
-// A case as the sheet has it.
+// The letter or digit of a case on the sheet.
 fn letter_of(case: Case) -> u8
-    ensures { λ r. ⌜ r ≡ letterOfCase (meantCase case) ⌝ }
+    ensures { λ r. ⌜ r ≡ letterOfCase (caseView case) ⌝ }
 {
     match case {
         Case::M => b'M',
@@ -27,40 +27,47 @@ fn letter_of(case: Case) -> u8
     }
 }
 
-fn row(year: u64, code: u64, present: u64) -> Year
-    ensures { λ r. ⌜ r ≡ rowIn year code present ⌝ }
+fn row(year: u64, case: Case, present: u64) -> YearRow
+    ensures { λ r. ⌜ r ≡ rowIn year case present ⌝ }
 {
-    Year {
+    YearRow {
         year,
-        case: letter_of(history::case_at(code)),
+        case: letter_of(case),
         present,
     }
 }
 
-fn rows(h: Years, codes: [u64; 10], present: [u64; 10]) -> [Year; 10]
-    requires { ⌜ (h .first ≤ 2021) × (h .count ≤ 10) ⌝ }
-    ensures { λ r. ⌜ r ≡ rowsIn h codes present ⌝ }
+fn rows(history: Years, cases: [Case; 10], present: [u64; 10]) -> [YearRow; 10]
+    requires { ⌜ (history .first ≤ 2021) × (history .count ≤ 10) ⌝ }
+    ensures { λ r. ⌜ r ≡ rowsIn history cases present ⌝ }
 {
-    let n = h.count as usize;
+    let n = history.count as usize;
     let mut years = no_years();
     let mut k = 0;
     while k < n {
-        let y = row(h.first + (k as u64), codes[k], present[k]);
+        let case = cases[k];
+        let y = row(history.first + (k as u64), case, present[k]);
         years[k] = y;
         k += 1;
     }
     years
 }
 
-pub(crate) fn reported(al: u64, filiere: u64, h: Years, codes: [u64; 10], f: Filling) -> Closing
-    requires { ⌜ (h .first ≤ 2021) × (h .count ≤ 10) ⌝ }
+pub(crate) fn reported(
+    al: u64,
+    filiere: u64,
+    history: Years,
+    cases: [Case; 10],
+    f: CurveTotals,
+) -> FileOutcome
+    requires { ⌜ (history .first ≤ 2021) × (history .count ≤ 10) ⌝ }
     requires { ⌜ (0 < f .counted) × (f .counted ≤ 4400) × (f .sum ≤ 20_000_000_000_000 * f .counted) ⌝ }
-    ensures { λ r. ⌜ r ≡ reportedBy al filiere h codes f ⌝ }
+    ensures { λ r. ⌜ r ≡ reportedBy al filiere history cases f ⌝ }
 {
     let level = curve::ncc(al, filiere, f.sum, f.counted);
     let present = f.present;
-    let years = rows(h, codes, present);
-    Closing {
+    let years = rows(history, cases, present);
+    FileOutcome {
         number: 0,
         level,
         points: f.counted,

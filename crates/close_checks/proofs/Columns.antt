@@ -1,4 +1,4 @@
--- The counted readings in one walk: each goes by the least position and the least index that the one before it leaves.
+-- The counted readings in one pass, with the least position and the least index that the reading before allows.
 use mathlib.Core.Path.{_≡_, refl, ap, sym, _∙_}
 use mathlib.Core.Bool.{Bool, true, false, _&&_}
 use mathlib.Core.List.{List, [], _∷_}
@@ -9,7 +9,7 @@ use lib.ListN.{length, getD}
 use borrow.Author.Tests.{le-leb, lt-leb}
 use Rattle.lists.specs.Lists.{all, tab, neighbours}
 use Rattle.lists.proofs.AllAt.{stops}
-use Rattle.lists.proofs.Turns.{tab-on, tab-end}
+use Rattle.lists.proofs.FilledTables.{tab-on, tab-end}
 use Rattle.lists.proofs.Tests.{same, and-false, and-true}
 use Rattle.lists.proofs.Ranges.{getD-any}
 use Rattle.calendar.specs.declared.Years.{Years}
@@ -18,12 +18,12 @@ use Rattle.meaning.specs.Line.{kindOfLetter}
 use Rattle.meaning.specs.Record.{readingFits, readingsFit}
 use Rattle.readings.specs.Columns.{readingIn, readingsIn}
 
--- the readings fit, the first at or after position p and with an index of at least x
+-- the readings fit, the first at position p or later and with an index of at least x
 unfoldable pub chain : Years → ℕ → ℕ → List Reading → Bool
 chain axis p x [] = true
 chain axis p x (r ∷ rs) = (readingFits axis r && (leb p (r .position) && leb x (r .index))) && chain axis (r .position + 1) (r .index) rs
 
--- ---- two walks in one
+-- ---- two passes as one
 later : (p q : ℕ) → ltb p q ≡ leb (p + 1) q
 later p q = same (ltb p q) (leb (p + 1) q) (λ t. le→leb (p + 1) q (omega (arith, ltb→lt p q t))) (λ t. lt→ltb p q (omega (arith, leb→le (p + 1) q t)))
 
@@ -54,7 +54,7 @@ readings-chain axis (r ∷ rs) =
     assoc true b c = refl
     assoc false b c = refl
 
--- ---- the columns that are left
+-- ---- the rest of the columns
 -- the readings from the k-th on
 unfoldable pub left : Years → List ℕ → List ℕ → List ℕ → ℕ → ℕ → ℕ → ℕ → Bool
 left axis ps xs ks n p x k = chain axis p x (tab (n - k) k (readingIn ps xs ks))

@@ -1,4 +1,4 @@
--- What 1 asks of a record's blocks at the close, and the years that the code takes.
+-- Refusal 1 at the close for a record and its blocks, and bounds on the years used in the code.
 use mathlib.Core.Path.{_≡_}
 use mathlib.Core.Bool.{Bool, true, false, not}
 use mathlib.Core.List.{List}
@@ -7,19 +7,19 @@ use native.Mathlib.Omega.{arith}
 use lib.Dec.{T}
 use Rattle.calendar.specs.Spans.{years, isKnown, historyYears}
 use Rattle.calendar.proofs.Laws.Positions.{HistoryBounds, history-bounds, no-history, axis-range}
-use Rattle.meaning.specs.Blocks.{World, readingsOf}
+use Rattle.meaning.specs.Blocks.{Blocks, readingsOf}
 use Rattle.meaning.specs.Record.{Rec, siteOfRec, historyOfSite, historyOfRec, axisOfRec, contentsFit}
 use Rattle.readings.specs.Columns.{readingsIn}
 use Rattle.close_checks.specs.Contents.{contentsIn}
 
--- ---- a record's blocks
--- what the code tells of lists and numbers is what 1 asks of the record, where its readings are those of three columns
-pub contents-fit : (s : Rec) (w : World) (ps xs ks : List ℕ) → readingsOf w (s .readings) ≡ readingsIn ps xs ks (s .readings)
+-- ---- the blocks of a record
+-- the result of the code for lists and numbers is what 1 requires of the record, where the three columns hold its readings
+pub contents-fit : (s : Rec) (w : Blocks) (ps xs ks : List ℕ) → readingsOf w (s .readings) ≡ readingsIn ps xs ks (s .readings)
     → contentsFit s w ≡ contentsIn (historyOfRec s) (axisOfRec s) (s .site .al) (w .near) (w .far) (w .slots) (w .daily) ps xs ks (s .readings)
 unfolding contentsFit contentsIn
 contents-fit s w ps xs ks e = rw e
 
--- ---- the years that the code takes
+-- ---- bounds on the years
 pub record YearsTaken (s : Rec) : Type 0 where
   pub history : historyOfRec s .first ≤ 9999
   pub axis : axisOfRec s .first ≤ 9999

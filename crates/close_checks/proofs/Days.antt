@@ -16,7 +16,7 @@ use Rattle.meaning.specs.Line.{mostProfile}
 use Rattle.close_checks.specs.Slots.{slotFits}
 use Rattle.close_checks.specs.Winter.{datedAt}
 
--- the test of each place of a block, by its date
+-- the test of each place of a block, with its date
 abbrev pub pointAt : Years → ℕ → ℕ → ℕ → Bool
 pointAt h first i v = pointFits (datedAt h first i) v
 
@@ -31,7 +31,7 @@ pub slots-all : (h : Years) (xs : List ℕ) → slotsFit h xs ≡ allAt (slotAt 
 unfolding slotsFit slotFits datedAt
 slots-all h xs = refl
 
--- ---- one day and what is left
+-- ---- one day and the rest of the block
 same-date : (h : Years) (first i k : ℕ) → i % 20 ≡ 0 → k < 20 → datedAt h first (i + k) ≡ datedAt h first i
 unfolding datedAt
 same-date h first i k a b =
@@ -57,7 +57,7 @@ day-on q h first xs i e m l d =
     go true f = inl (omega (arith, leb-true (i + 20) (length xs) f))
     go false f = inr (omega (arith, leb-false (i + 20) (length xs) f), omega (arith, leb-false (i + 20) (length xs) f))
 
--- the same of a walk that has told the rest of the block and knows the day's date
+-- the same for a loop that knows the result for the rest of the block and the day's date
 pub day-step : (q : Bool → ℕ → Bool) (h : Years) (first : ℕ) (xs : List ℕ) (i e : ℕ) (dated : Bool) {x : Bool} → i % 20 ≡ 0 → i ≤ length xs → e ≡ min (i + 20) (length xs)
     → dated ≡ datedAt h first i → x ≡ allAt (λ j v. q (datedAt h first j) v) i (drop i xs)
     → x ≡ (all (q dated) (take (e - i) (drop i xs)) && allAt (λ j v. q (datedAt h first j) v) (i + 20) (drop (i + 20) xs))
@@ -74,5 +74,3 @@ value-fits v l = go (eqb v 0)
 
 pub dated-slots : (xs : List ℕ) (n i : ℕ) → ((k : ℕ) → getD xs k 0 ≤ 65535) → all (slotFits true) (take n (drop i xs)) ≡ true
 dated-slots xs n i h = all-made (slotFits true) (take n (drop i xs)) (λ k. value-fits _ (omega (arith, getD-part n i k xs, h (i + k))))
-
--- ---- and those of a day without a date

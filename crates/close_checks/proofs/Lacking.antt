@@ -1,7 +1,7 @@
--- 15, 16 and 17 of a filing are those that the columns, the tallies and the marks of its years give.
+-- 15, 16 and 17 of a filing, from the columns, the dates by year and the valid-index and default-power years.
 use mathlib.Core.Path.{_≡_, ap, ap₂, sym, _∙_}
 use mathlib.Core.Logic.{_↔_}
-use mathlib.Core.Bool.{Bool, _&&_, _||_}
+use mathlib.Core.Bool.{Bool, false, _&&_, _||_}
 use mathlib.Core.List.{List}
 use Prim.Native.Nat.{ℕ, _+_, _-_, _*_, _/_, _≤_, _<_}
 use native.Mathlib.Omega.{arith}
@@ -16,11 +16,12 @@ use Rattle.calendar.specs.Spans.{axisYears}
 use Rattle.meaning.specs.Filing.{Site, Filing, axisOf, historyList, yearsIn}
 use Rattle.meaning.specs.Validity.{Interval, intervals, overlapsWinter, touches, totalOf, indexValid}
 use Rattle.meaning.specs.Cases.{caseOf, isDefault}
-use Rattle.meaning.specs.Closing.{partial, lacking, zeroTotal, lacks, isPartial, allWinterDates, allDates, someWinterInterval, lacksProfile, lacksDaily}
-use Rattle.meaning.specs.Blocks.{World, readingsOf}
+use Rattle.calendar.specs.Dates.{allWinterDates, allDates}
+use Rattle.meaning.specs.Closing.{partial, noData, zeroTotal, closeHolds, isPartial, someWinterInterval, lacksProfile, lacksDaily}
+use Rattle.meaning.specs.Blocks.{Blocks, readingsOf}
 use Rattle.meaning.specs.Record.{Tallies, historyOfSite, readingsFit, filingHeld}
 use Rattle.readings.specs.Columns.{Columned}
-use Rattle.validity.specs.Columns.{opens, closes, january, meetsWinter, isSet, Rising}
+use Rattle.validity.specs.Columns.{intervalStart, intervalEnd, yearStart, meetsWinter, Rising}
 use Rattle.validity.specs.Days.{totalIn, ofInterval, totalAt, totalsOf}
 use Rattle.close_checks.specs.Closing.{missesBetween, missesDays}
 use Rattle.lists.proofs.Ranges.{any-tab, any-same, any-moved, some-of-range, range-some}
@@ -36,7 +37,7 @@ years-by-number : (f : ℕ → Bool) (span : Years) → any f (yearsIn span) ≡
 unfolding yearsIn
 years-by-number f span = any-moved f (span .count) (span .first)
 
-module _ (t : Site) (n : ℕ) (k : Tallies) (e : Bool) (w : World) where
+module _ (t : Site) (n : ℕ) (k : Tallies) (e : Bool) (w : Blocks) where
   history-list : (f : ℕ → Bool) → any f (historyList (filingHeld t n k e w)) ≡ any (λ j. f (historyOfSite t .first + j)) (range 0 (historyOfSite t .count))
   unfolding historyList
   history-list f = ap (λ (s : Years). any f (yearsIn s)) (history-held t n k e w) ∙ years-by-number f (historyOfSite t)
@@ -53,8 +54,8 @@ module _ (t : Site) (n : ℕ) (k : Tallies) (e : Bool) (w : World) where
   daily-dates j h = by-year (axisYears (historyOfSite t)) (k .dailyDates) j h
 
   -- ---- 15
-  pub partial-held : lacks partial (filingHeld t n k e w) ≡ partialDates (historyOfSite t .first) (historyOfSite t .count) (k .profileDates) (k .dailyDates)
-  unfolding lacks partialDates somePartial
+  pub partial-held : closeHolds partial (filingHeld t n k e w) ≡ partialDates (historyOfSite t .first) (historyOfSite t .count) (k .profileDates) (k .dailyDates)
+  unfolding closeHolds partialDates somePartial
   partial-held =
       let F = filingHeld t n k e w in
       let h = historyOfSite t in
@@ -67,10 +68,10 @@ module _ (t : Site) (n : ℕ) (k : Tallies) (e : Bool) (w : World) where
       ∙ any-same (λ j. isPartial (F .dailyDates (a .first + j)) (allDates (a .first + j))) (λ j. isPartial (getD (k .dailyDates) j 0) (allDates (a .first + j))) (a .count) 0
       (λ j b c. ap (λ (m : ℕ). isPartial m (allDates (a .first + j))) (daily-dates j (omega arith))))
 
-  -- ---- 16: profiles, by a mark of each year's index and of its default power
-  pub profiles-held : (valid default : List ℕ)
-      → ((j : ℕ) → j < historyOfSite t .count → isSet valid j ≡ indexValid (filingHeld t n k e w) (historyOfSite t .first + j))
-      → ((j : ℕ) → j < historyOfSite t .count → isSet default j ≡ isDefault (caseOf (filingHeld t n k e w) (historyOfSite t .first + j)))
+  -- ---- 16: profiles, from the valid-index and default-power years
+  pub profiles-held : (valid default : List Bool)
+      → ((j : ℕ) → j < historyOfSite t .count → getD valid j false ≡ indexValid (filingHeld t n k e w) (historyOfSite t .first + j))
+      → ((j : ℕ) → j < historyOfSite t .count → getD default j false ≡ isDefault (caseOf (filingHeld t n k e w) (historyOfSite t .first + j)))
       → any (lacksProfile (filingHeld t n k e w)) (historyList (filingHeld t n k e w)) ≡ lacksProfiles (historyOfSite t .count) valid default (k .profileDates)
   unfolding lacksProfile lacksProfiles lacksProfileAt
   profiles-held valid default v d =
@@ -78,9 +79,9 @@ module _ (t : Site) (n : ℕ) (k : Tallies) (e : Bool) (w : World) where
       ∙ any-same (λ j. lacksProfile (filingHeld t n k e w) (historyOfSite t .first + j)) (lacksProfileAt valid default (k .profileDates)) (historyOfSite t .count) 0
       (λ j a b. rw (v j (omega arith), d j (omega arith), profile-dates j (omega arith)))
 
-  -- ---- 16 and 17: the intervals that a valid index year is profiled from
-  module _ {ps xs ks : List ℕ} (cols : Columned w n ps xs ks) (rise : Rising ps n) (fit : T (readingsFit (axisYears (historyOfSite t)) (readingsOf w n))) (valid : List ℕ)
-      (marks : (j : ℕ) → j < historyOfSite t .count → isSet valid j ≡ indexValid (filingHeld t n k e w) (historyOfSite t .first + j)) where
+  -- ---- 16 and 17: the intervals from which a valid-index year is profiled
+  module _ {ps xs ks : List ℕ} (cols : Columned w n ps xs ks) (rise : Rising ps n) (fit : T (readingsFit (axisYears (historyOfSite t)) (readingsOf w n))) (valid : List Bool)
+      (valid-is : (j : ℕ) → j < historyOfSite t .count → getD valid j false ≡ indexValid (filingHeld t n k e w) (historyOfSite t .first + j)) where
     pub some-held : (p : Interval → Bool) (q : ℕ → Bool) → ((i : ℕ) → i + 1 < n → p (intervalOf ps xs ks i) ≡ q i)
         → someWinterInterval (filingHeld t n k e w) p ≡ someWinter (historyOfSite t .count) valid ps n q
     unfolding someWinterInterval someWinter someIn
@@ -89,11 +90,11 @@ module _ (t : Site) (n : ℕ) (k : Tallies) (e : Bool) (w : World) where
         let h = historyOfSite t in
         let one : ℕ → Interval → Bool = λ y v. overlapsWinter F y v && p v in
         history-list (λ y. indexValid F y && any (one y) (intervals F))
-        ∙ any-same (λ j. indexValid F (h .first + j) && any (one (h .first + j)) (intervals F)) (λ j. isSet valid j && someIn ps n q (january j)) (h .count) 0
+        ∙ any-same (λ j. indexValid F (h .first + j) && any (one (h .first + j)) (intervals F)) (λ j. getD valid j false && someIn ps n q (yearStart j)) (h .count) 0
         (λ j a b. let l : j < h .count = omega arith in
-        rw (intervals-held t n k e w cols, marks j l, any-tab (one (h .first + j)) (n - 1) 0 (intervalOf ps xs ks))
+        rw (intervals-held t n k e w cols, valid-is j l, any-tab (one (h .first + j)) (n - 1) 0 (intervalOf ps xs ks))
         (ap (λ (o : Bool). indexValid F (h .first + j) && o)
-        (any-same (λ i. one (h .first + j) (intervalOf ps xs ks i)) (λ i. meetsWinter (january j) (opens ps i) (closes ps i) && q i) (n - 1) 0
+        (any-same (λ i. one (h .first + j) (intervalOf ps xs ks i)) (λ i. meetsWinter (yearStart j) (intervalStart ps i) (intervalEnd ps i) && q i) (n - 1) 0
         (λ i c d. ap₂ (λ (x y : Bool). x && y) (overlap-held t n k e w cols rise fit j l i (omega arith)) (f i (omega arith))))))
 
     -- 17
@@ -102,16 +103,16 @@ module _ (t : Site) (n : ℕ) (k : Tallies) (e : Bool) (w : World) where
     zero-at i h =
         ap (λ (m : ℕ). eqb m 0)
         (total-held t n k e w cols fit i h
-        ∙ sym (getD-tab0 4392 (totalAt ps (w .daily) n) (opens ps i) 0 (rise .below i (omega arith))
-        ∙ ap (ofInterval (totalIn ps (w .daily))) (around-here ps n rise i (opens ps i) h (omega arith) (rise .rises i h))))
+        ∙ sym (getD-tab0 4392 (totalAt ps (w .daily) n) (intervalStart ps i) 0 (rise .below i (omega arith))
+        ∙ ap (ofInterval (totalIn ps (w .daily))) (around-here ps n rise i (intervalStart ps i) h (omega arith) (rise .rises i h))))
 
-    pub zero-held : lacks zeroTotal (filingHeld t n k e w) ≡ someWinter (historyOfSite t .count) valid ps n (totalsZero ps (totalsOf ps (w .daily) n))
-    unfolding lacks
+    pub zero-held : closeHolds zeroTotal (filingHeld t n k e w) ≡ someWinter (historyOfSite t .count) valid ps n (totalsZero ps (totalsOf ps (w .daily) n))
+    unfolding closeHolds
     zero-held = some-held (λ v. eqb (totalOf (filingHeld t n k e w) v) 0) (totalsZero ps (totalsOf ps (w .daily) n)) zero-at
 
-    -- 16: an interval touches the axis years from its first day's to its last day's
+    -- 16: an interval touches the axis years from that of its first day to that of its last
     touch-held : (i : ℕ) → i + 1 < n → (j : ℕ) → T (touches (filingHeld t n k e w) (axisYears (historyOfSite t) .first + j) (intervalOf ps xs ks i))
-        ↔ ((opens ps i / 366 ≤ j) × (j ≤ (closes ps i - 1) / 366))
+        ↔ ((intervalStart ps i / 366 ≤ j) × (j ≤ (intervalEnd ps i - 1) / 366))
     touch-held i h j =
         let a = axis-held t n k e w in
         let row : axisYears (historyOfSite t) .first + j - axisOf (filingHeld t n k e w) .first ≡ j = rw a (omega arith) in
@@ -133,10 +134,10 @@ module _ (t : Site) (n : ℕ) (k : Tallies) (e : Bool) (w : World) where
         a = axisYears (historyOfSite t)
 
         p : ℕ
-        p = opens ps i
+        p = intervalStart ps i
 
         q : ℕ
-        q = closes ps i
+        q = intervalEnd ps i
 
         gone : ℕ → Bool
         gone j = eqb (getD (k .dailyDates) j 0) 0
@@ -162,9 +163,9 @@ module _ (t : Site) (n : ℕ) (k : Tallies) (e : Bool) (w : World) where
     pub daily-held : someWinterInterval (filingHeld t n k e w) (lacksDaily (filingHeld t n k e w)) ≡ someWinter (historyOfSite t .count) valid ps n (missesDays ps (k .dailyDates))
     daily-held = some-held (lacksDaily (filingHeld t n k e w)) (missesDays ps (k .dailyDates)) misses-at
 
-    pub lacking-held : (default : List ℕ)
-        → ((j : ℕ) → j < historyOfSite t .count → isSet default j ≡ isDefault (caseOf (filingHeld t n k e w) (historyOfSite t .first + j)))
-        → lacks lacking (filingHeld t n k e w)
+    pub lacking-held : (default : List Bool)
+        → ((j : ℕ) → j < historyOfSite t .count → getD default j false ≡ isDefault (caseOf (filingHeld t n k e w) (historyOfSite t .first + j)))
+        → closeHolds noData (filingHeld t n k e w)
         ≡ (lacksProfiles (historyOfSite t .count) valid default (k .profileDates) || someWinter (historyOfSite t .count) valid ps n (missesDays ps (k .dailyDates)))
-    unfolding lacks
-    lacking-held default d = ap₂ (λ (x y : Bool). x || y) (profiles-held valid default marks d) daily-held
+    unfolding closeHolds
+    lacking-held default d = ap₂ (λ (x y : Bool). x || y) (profiles-held valid default valid-is d) daily-held

@@ -4,4 +4,4 @@ pub mod Winter
 pub mod Axis
 pub mod Closing
 pub mod Totals
-pub mod Stops
+pub mod DataRefusals

@@ -1,8 +1,8 @@
-// What 1 asks at the close of what the lent blocks hold: at a place with a date of the file's years what the tag can take, elsewhere fresh.
-mod axis_blocks; // of daily sums
-mod profile_blocks; // of profile values
-mod reading_blocks; // of the counted readings
-mod winter_blocks; // of points
+// Refusal 1 at the close: the lent blocks. A place with a date of the file's years holds what its tag can give, any other place is fresh.
+mod axis_blocks; // daily sums
+mod profile_blocks; // profile values
+mod reading_blocks; // the counted readings
+mod winter_blocks; // points
 
 ghost use mathlib.Core.Path.{_≡_};
 ghost use Prim.Native.Nat.{_-_, _≤_};
@@ -14,7 +14,7 @@ use crate::contents::reading_blocks::readings_fit;
 use crate::contents::winter_blocks::points_fit;
 use calendar::Years;
 
-// A year some years before another, and 0 where there is none: an AL is 0 until S is taken.
+// The year some years before another, 0 where there is none: an AL is 0 until S is taken.
 fn years_before(year: u64, years: u64) -> u64
     ensures { λ r. ⌜ r ≡ year - years ⌝ }
 {
@@ -24,7 +24,7 @@ fn years_before(year: u64, years: u64) -> u64
     year - years
 }
 
-// All of it, of the blocks as they are lent.
+// Whether all blocks fit. The columns are lent one by one: a struct of 600 readings would be copied.
 pub fn contents_fit(
     near: &[u32],
     far: &[u32],

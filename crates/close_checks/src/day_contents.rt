@@ -1,4 +1,4 @@
-// What 1 asks at the close of the 20 points, or profile values, of one day.
+// Refusal 1 at the close: the 20 points, or profile values, of one day.
 use blocks::NO_POINT;
 ghost use mathlib.Core.Path.{_≡_};
 ghost use mathlib.Core.Bool.{false};
@@ -8,7 +8,7 @@ ghost use Rattle.close_checks.specs.Slots.{slotFits};
 
 const MOST_POWER: u32 = 100000000;
 
-// The points: at a date of the history what C can give, elsewhere missing.
+// Whether the points fit: at a date of the history what C can give, elsewhere missing.
 pub(crate) fn points_on_day(points: &[u32], dated: bool) -> bool
     ensures { λ r. ⌜ r ≡ all (pointFits dated) (now (points .entry)) ⌝ }
 {
@@ -35,7 +35,7 @@ fn point_fits(dated: bool, v: u32) -> bool
     v <= MOST_POWER
 }
 
-// The profile values of a day without a date.
+// Whether the profile values of a day without a date fit: all are 0.
 pub(crate) fn all_zero(slots: &[u16]) -> bool
     ensures { λ r. ⌜ r ≡ all (slotFits false) (now (slots .entry)) ⌝ }
 {

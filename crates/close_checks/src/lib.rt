@@ -1,7 +1,7 @@
-// What refuses a close before its points are looked at: 1 on what the lent blocks hold, and 15, 16 and 17 on what the years lack.
+// The refusals of a close before its points are computed: 1 on the contents of the lent blocks, and 15, 16 and 17 on data that are missing or 0.
 mod day_contents; // 1 on the 20 points, or profile values, of a day
 mod contents; // 1 on points, profile values, daily sums and counted readings
-mod lacks; // 15, 16 and 17
+mod missing_data; // 15, 16 and 17
 
 pub use contents::contents_fit;
-pub use lacks::stop_number;
+pub use missing_data::data_refusal;

@@ -1,4 +1,4 @@
--- A list copied from the front on.
+-- A list copied from the front.
 use mathlib.Core.Path.{_≡_, refl, ap, sym, _∙_}
 use mathlib.Core.Bool.{Bool, true, false}
 use mathlib.Core.List.{List}
@@ -9,7 +9,7 @@ use lib.ListN.{length, getD, set}
 use lib.Seq.{getD-set-same, getD-set-other}
 use borrow.Author.Tests.{eqb-true, eqb-false}
 
--- a list copied up to place i, and one place more
+-- a list copied up to place i, and one more place
 pub copied-on : (xs ys : List ℕ) (i : ℕ) → i < length ys → ((j : ℕ) → j < i → getD ys j 0 ≡ getD xs j 0) → (j : ℕ) → j < i + 1 → getD (set ys i (getD xs i 0)) j 0 ≡ getD xs j 0
 copied-on xs ys i h e j l = go (eqb j i) refl
   where

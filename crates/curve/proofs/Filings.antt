@@ -1,4 +1,4 @@
--- The filing that a record and its blocks hold, by the lists that the walk is lent: the sources of its points.
+-- The filing in a record and its blocks: the sources of its points, from the lists that the loop is lent.
 use mathlib.Core.Path.{_≡_, refl, ap, sym, _∙_}
 use mathlib.Core.Bool.{Bool, true, false, _&&_, cond}
 use mathlib.Core.List.{List, map}
@@ -6,8 +6,8 @@ use mathlib.Core.Option.{Option, some, none}
 use Prim.Native.Nat.{ℕ, _+_, _-_, _≤_, _<_}
 use native.Mathlib.Nat.{add-zero}
 use native.Mathlib.Omega.{arith}
-use lib.Dec.{T, ltb}
-use lib.ListN.{length, getD}
+use lib.Dec.{T}
+use lib.ListN.{getD}
 use borrow.Author.Tests.{lt-ltb}
 use Rattle.lists.specs.Lists.{tab, range, present, sum, flat, Each, each-nil, each-cons}
 use Rattle.lists.proofs.Laws.{getD-tab0, each-map}
@@ -21,20 +21,22 @@ use Rattle.note.specs.Coefficients.{caOf}
 use Rattle.note.proofs.PeakDays.{each-winter}
 use Rattle.meaning.specs.Filing.{Site, Filing, historyOf, yearsIn, historyList}
 use Rattle.meaning.specs.Validity.{curveValid, indexValid}
-use Rattle.meaning.specs.Cases.{Case, caseM, case1, case2, case3, case4, caseP, case5, case6, caseOf}
-use Rattle.meaning.specs.Points.{Origin, byProfile, Donor, own, Place, placeOf, intervalAt, profiledIn, profiledAt, readBy, readAt, donorOf, curveDonor, indexDonor, curveDonors, indexDonors, ownOf, historyCas, defaultAt, sourceBy, sourceAt, appliedRate, yearPlaces, allPlaces}
-use Rattle.meaning.specs.Blocks.{World, slotsStart}
+use Rattle.meaning.specs.Cases.{Case as DocumentCase, caseM, case1, case2, case3, case4, caseP, case5, case6, caseOf}
+use Rattle.meaning.specs.Points.{Origin, byProfile, Donor, own, placeOf, intervalAt, profiledIn, profiledAt, readBy, readAt, donorOf, curveDonor, indexDonor, curveDonors, indexDonors, ownOf, historyCas, defaultAt, sourceBy, sourceAt, appliedRate, yearPlaces, allPlaces}
+use Rattle.meaning.specs.Blocks.{Blocks, slotsStart}
 use Rattle.meaning.specs.Record.{Tallies, historyOfSite, profileHeld, byYear, rateOfCode, filingHeld}
 use Rattle.validity.proofs.Filings.{point-is}
-use Rattle.points.specs.declared.own.Basis.{Basis}
-use Rattle.history.specs.Cases.{meantCase, caseOfCode}
-use Rattle.points.specs.OwnGiven.{codeIn, readIn, profileIn, profiledOn}
-use Rattle.points.specs.DonorsGiven.{donorBy, curveGiven, indexGiven, donorsAmong}
-use Rattle.history.specs.Years.{positionIn, onDay, bit, giversOn, casFrom, casSum, isSet}
+use Rattle.points.specs.declared.own.SiteFactors.{SiteFactors}
+use Rattle.history.specs.declared.cases.Case.{Case}
+use Rattle.history.specs.declared.cases.Case.the-variants.{M}
+use Rattle.history.specs.Cases.{caseView}
+use Rattle.points.specs.OwnPoints.{codeIn, readIn, profileIn, profiledOn}
+use Rattle.points.specs.DonorOrigins.{donorBy, curveOrigin, indexOrigin, donorsAmong}
+use Rattle.history.specs.Years.{positionIn, onDay, isDonorOn, casFrom, casSum}
 use Rattle.points.specs.Sources.{Day, curveDonorsIn, indexDonorsIn, defaultIn, sourceIn}
-use Rattle.curve.specs.Tallies.{place}
-use Rattle.curve.specs.YearPlaces.{Held, held, dayIn, placesOn, placesIn}
-use Rattle.curve.specs.Places.{placesOf, allPlacesIn, basisOf}
+use Rattle.curve.specs.PlaceSums.{place}
+use Rattle.curve.specs.YearPlaces.{FileData, fileData, dayIn, placesOn, placesIn}
+use Rattle.curve.specs.Places.{placesOf, allPlacesIn, siteFactorsOf}
 
 -- ---- lists that agree at each element
 pub map-each : {A B : Type 0} (f g : A → B) {xs : List A} → Each (λ x. f x ≡ g x) xs → map f xs ≡ map g xs
@@ -45,26 +47,21 @@ pub map-range : {A : Type 0} (f : ℕ → A) (a n : ℕ) → map f (range a n) �
 unfolding range
 map-range f a n = range-tab f a n ∙ ap (λ (m : ℕ). tab n m f) (sym (add-zero a)) ∙ tab-shift n a 0 f
 
-bit-set : (b : Bool) → isSet (bit b) ≡ b
-unfolding isSet bit
-bit-set true = refl
-bit-set false = refl
-
 no-donor : (ca : ℕ) → donorBy ca none ≡ none
 unfolding donorBy
 no-donor ca = refl
 
--- ---- the lists that mean a filing: E and daily total by position, valid curves and indexes and codes of cases by history year
-pub record Means (F : Filing) (energies totals curves indexes codes : List ℕ) : Type 0 where
+-- ---- the lists of a filing: E and daily total by position, valid curves, valid indexes and cases by history year
+pub record Means (F : Filing) (energies totals : List ℕ) (curves indexes : List Bool) (cases : List Case) : Type 0 where
   pub known : T (isKnown (F .site .al) (F .site .filiere))
   pub around : (k w p : ℕ) → k < historyOf F .count → w < 152
       → profiledIn F (intervalAt F (historyOf F .first + k) w) p ≡ byProfile (getD energies (positionIn k w) 0) p (getD totals (positionIn k w) 0)
-  pub curve-marks : (k : ℕ) → k < historyOf F .count → isSet (getD curves k 0) ≡ curveValid F (historyOf F .first + k)
-  pub index-marks : (k : ℕ) → k < historyOf F .count → isSet (getD indexes k 0) ≡ indexValid F (historyOf F .first + k)
-  pub cases : (k : ℕ) → k < historyOf F .count → meantCase (caseOfCode (getD codes k 0)) ≡ caseOf F (historyOf F .first + k)
+  pub curves-valid : (k : ℕ) → k < historyOf F .count → getD curves k false ≡ curveValid F (historyOf F .first + k)
+  pub indexes-valid : (k : ℕ) → k < historyOf F .count → getD indexes k false ≡ indexValid F (historyOf F .first + k)
+  pub cases-are : (k : ℕ) → k < historyOf F .count → caseView (getD cases k M) ≡ caseOf F (historyOf F .first + k)
 
-module _ (t : Site) (n : ℕ) (r : Tallies) (e : Bool) (b : World) (energies totals curves indexes codes : List ℕ)
-    (m : Means (filingHeld t n r e b) energies totals curves indexes codes) where
+module _ (t : Site) (n : ℕ) (r : Tallies) (e : Bool) (b : Blocks) (energies totals : List ℕ) (curves indexes : List Bool) (cases : List Case)
+    (m : Means (filingHeld t n r e b) energies totals curves indexes cases) where
   abbrev F : Filing
   F = filingHeld t n r e b
 
@@ -74,11 +71,11 @@ module _ (t : Site) (n : ℕ) (r : Tallies) (e : Bool) (b : World) (energies tot
   abbrev years : ℕ
   years = historyYears (t .al) (t .filiere) .count
 
-  abbrev B : Basis
-  B = basisOf (t .al) (t .filiere) (t .ps)
+  abbrev B : SiteFactors
+  B = siteFactorsOf (t .al) (t .filiere) (t .ps)
 
-  abbrev L : Held
-  L = held (b .near) (b .far) (b .slots) energies totals curves indexes (casFrom first (t .filiere))
+  abbrev L : FileData
+  L = fileData (b .near) (b .far) (b .slots) energies totals curves indexes (casFrom first (t .filiere))
 
   is-known : T (isKnown (t .al) (t .filiere))
   unfolding filingHeld
@@ -125,25 +122,24 @@ module _ (t : Site) (n : ℕ) (r : Tallies) (e : Bool) (b : World) (energies tot
   donor-is k h (some o) = rw (ca-is k h)
 
   curve-given : (w h k : ℕ) → k < years → w < 152 → h < 20
-      → donorBy (getD (casFrom first (t .filiere)) k 0) (curveGiven (t .al) first (b .near) (b .far) curves w h k) ≡ curveDonor F w h (first + k)
-  unfolding curveGiven curveDonor historyOf filingHeld
+      → donorBy (getD (casFrom first (t .filiere)) k 0) (curveOrigin (t .al) first (b .near) (b .far) curves w h k) ≡ curveDonor F w h (first + k)
+  unfolding curveOrigin curveDonor historyOf filingHeld
   curve-given w h k i j l =
-      rw (m .curve-marks k i, code-is k w h i j l) (go (curveValid F (first + k)))
+      rw (m .curves-valid k i, code-is k w h i j l) (go (curveValid F (first + k)))
     where
       go : (v : Bool) → donorBy (getD (casFrom first (t .filiere)) k 0) (cond v (readAt F (first + k) w h) none) ≡ cond v (donorOf F (first + k) (readAt F (first + k) w h)) none
       go true = donor-is k i (readAt F (first + k) w h)
       go false = no-donor (getD (casFrom first (t .filiere)) k 0)
 
-  giver-is : (w k : ℕ) → k < years → isSet (getD (giversOn indexes first w) k 0) ≡ (indexValid F (first + k) && hasWinterDate (first + k) w)
-  unfolding giversOn historyOf filingHeld
+  giver-is : (w k : ℕ) → k < years → getD (isDonorOn indexes first w) k false ≡ (indexValid F (first + k) && hasWinterDate (first + k) w)
+  unfolding isDonorOn historyOf filingHeld
   giver-is w k h =
-      ap isSet (getD-tab0 10 (λ j. bit (isSet (getD indexes j 0) && hasWinterDate (first + j) w)) k 0 (omega (arith, h, few)))
-      ∙ bit-set (isSet (getD indexes k 0) && hasWinterDate (first + k) w)
-      ∙ ap (λ (v : Bool). v && hasWinterDate (first + k) w) (m .index-marks k h)
+      getD-tab0 10 (λ j. getD indexes j false && hasWinterDate (first + j) w) k false (omega (arith, h, few))
+      ∙ ap (λ (v : Bool). v && hasWinterDate (first + k) w) (m .indexes-valid k h)
 
   index-given : (w h k : ℕ) → k < years → w < 152 → h < 20
-      → donorBy (getD (casFrom first (t .filiere)) k 0) (indexGiven (b .slots) (onDay energies w) (onDay totals w) (giversOn indexes first w) w h k) ≡ indexDonor F w h (first + k)
-  unfolding indexGiven indexDonor
+      → donorBy (getD (casFrom first (t .filiere)) k 0) (indexOrigin (b .slots) (onDay energies w) (onDay totals w) (isDonorOn indexes first w) w h k) ≡ indexDonor F w h (first + k)
+  unfolding indexOrigin indexDonor
   index-given w h k i j l =
       rw (giver-is w k i, profiled-is k w h i j l) (go (indexValid F (first + k) && hasWinterDate (first + k) w))
     where
@@ -159,13 +155,13 @@ module _ (t : Site) (n : ℕ) (r : Tallies) (e : Bool) (b : World) (energies tot
       ap present (tab-same years 0 (λ k. donorBy (getD (casFrom first (t .filiere)) k 0) (g k)) (λ k. f (first + k)) (λ k i. h k (omega (arith, i))) ∙ sym (map-range f first years))
 
   curve-donors : (w h : ℕ) → w < 152 → h < 20 → curveDonorsIn B (D w) w h ≡ curveDonors F w h
-  unfolding curveDonorsIn curveDonors historyList yearsIn historyOf filingHeld basisOf dayIn
-  curve-donors w h j l = among-is (curveGiven (t .al) first (b .near) (b .far) curves w h) (curveDonor F w h) (λ k i. curve-given w h k i j l)
+  unfolding curveDonorsIn curveDonors historyList yearsIn historyOf filingHeld siteFactorsOf dayIn
+  curve-donors w h j l = among-is (curveOrigin (t .al) first (b .near) (b .far) curves w h) (curveDonor F w h) (λ k i. curve-given w h k i j l)
 
   index-donors : (w h : ℕ) → w < 152 → h < 20 → indexDonorsIn B (D w) w h ≡ indexDonors F w h
-  unfolding indexDonorsIn indexDonors historyList yearsIn historyOf filingHeld basisOf dayIn
+  unfolding indexDonorsIn indexDonors historyList yearsIn historyOf filingHeld siteFactorsOf dayIn
   index-donors w h j l =
-      among-is (indexGiven (b .slots) (onDay energies w) (onDay totals w) (giversOn indexes first w) w h) (indexDonor F w h) (λ k i. index-given w h k i j l)
+      among-is (indexOrigin (b .slots) (onDay energies w) (onDay totals w) (isDonorOn indexes first w) w h) (indexDonor F w h) (λ k i. index-given w h k i j l)
 
   -- ---- default power
   cas-sum : casSum years (casFrom first (t .filiere)) ≡ historyCas F
@@ -176,12 +172,12 @@ module _ (t : Site) (n : ℕ) (r : Tallies) (e : Bool) (b : World) (energies tot
   length-is = ap (λ (s : Rattle.calendar.specs.declared.Years.Years). s .count) (known-history (t .al) (t .filiere) is-known)
 
   default-is : (k w h : ℕ) → k < years → w < 152 → h < 20 → defaultIn B (D w) k w h ≡ defaultAt F (first + k) w h
-  unfolding defaultIn defaultAt basisOf dayIn filingHeld
+  unfolding defaultIn defaultAt siteFactorsOf dayIn filingHeld
   default-is k w h i j l = rw (profile-is k w h i j l, ca-is k i, cas-sum, length-is)
 
   -- ---- the source of each point
-  source-by : (x : Case) (k w h : ℕ) → k < years → w < 152 → h < 20 → sourceIn B (D w) x k w h ≡ sourceBy x F (first + k) w h
-  unfolding sourceIn sourceBy basisOf dayIn
+  source-by : (x : DocumentCase) (k w h : ℕ) → k < years → w < 152 → h < 20 → sourceIn B (D w) x k w h ≡ sourceBy x F (first + k) w h
+  unfolding sourceIn sourceBy siteFactorsOf dayIn
   source-by caseM k w h i j l = ap ownOf (code-is k w h i j l)
   source-by case1 k w h i j l = ap own (profiled-is k w h i j l)
   source-by case2 k w h i j l = rw (ca-is k i, curve-donors w h j l)
@@ -198,21 +194,21 @@ module _ (t : Site) (n : ℕ) (r : Tallies) (e : Bool) (b : World) (energies tot
       rw (is-true (among (historyOfSite t) (first + k)) (in-years k h), d)
 
   place-is : (k w h : ℕ) → k < years → w < 152 → h < 20
-      → place (getD (r .rates) k 0) (sourceIn B (D w) (meantCase (caseOfCode (getD codes k 0))) k w h) ≡ placeOf F (first + k) w h
+      → place (getD (r .rates) k 0) (sourceIn B (D w) (caseView (getD cases k M)) k w h) ≡ placeOf F (first + k) w h
   unfolding placeOf sourceAt historyOf filingHeld
-  place-is k w h i j l = rw (rate-is k i, m .cases k i, source-by (caseOf F (first + k)) k w h i j l)
+  place-is k w h i j l = rw (rate-is k i, m .cases-are k i, source-by (caseOf F (first + k)) k w h i j l)
 
   -- ---- the places of a year, and of all
-  pub year-is : (k : ℕ) → k < years → placesOf B L codes (r .rates) k ≡ yearPlaces F (first + k)
-  unfolding placesOf placesIn placesOn yearPlaces basisOf
+  pub year-is : (k : ℕ) → k < years → placesOf B L cases (r .rates) k ≡ yearPlaces F (first + k)
+  unfolding placesOf placesIn placesOn yearPlaces siteFactorsOf
   year-is k i =
       ap flat (map-each
-      (λ w. tab 20 0 (λ h. place (getD (r .rates) k 0) (sourceIn B (D w) (meantCase (caseOfCode (getD codes k 0))) k w h)))
+      (λ w. tab 20 0 (λ h. place (getD (r .rates) k 0) (sourceIn B (D w) (caseView (getD cases k M)) k w h)))
       (λ w. tab 20 0 (placeOf F (first + k) w))
-      (each-map (λ w j. tab-same 20 0 (λ h. place (getD (r .rates) k 0) (sourceIn B (D w) (meantCase (caseOfCode (getD codes k 0))) k w h)) (placeOf F (first + k) w)
+      (each-map (λ w j. tab-same 20 0 (λ h. place (getD (r .rates) k 0) (sourceIn B (D w) (caseView (getD cases k M)) k w h)) (placeOf F (first + k) w)
       (λ h l. place-is k w h i j (omega (arith, l)))) (each-winter (first + k))))
 
-  pub all-is : allPlacesIn B L codes (r .rates) ≡ allPlaces F
-  unfolding allPlacesIn allPlaces historyList yearsIn historyOf filingHeld basisOf
+  pub all-is : allPlacesIn B L cases (r .rates) ≡ allPlaces F
+  unfolding allPlacesIn allPlaces historyList yearsIn historyOf filingHeld siteFactorsOf
   all-is =
-      ap flat (tab-same years 0 (placesOf B L codes (r .rates)) (λ k. yearPlaces F (first + k)) (λ k i. year-is k (omega (arith, i))) ∙ sym (map-range (yearPlaces F) first years))
+      ap flat (tab-same years 0 (placesOf B L cases (r .rates)) (λ k. yearPlaces F (first + k)) (λ k i. year-is k (omega (arith, i))) ∙ sym (map-range (yearPlaces F) first years))

@@ -1,8 +1,8 @@
-pub mod Tallying
+pub mod PlaceSums
 pub mod Walking
 pub mod Close
 pub mod Filings
-pub mod Given
+pub mod GivenFile
 pub mod Sites
 pub mod Years
 pub mod Copying

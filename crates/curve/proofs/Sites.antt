@@ -1,4 +1,4 @@
--- What a site that document 01 accepts is reckoned with: each number fits.
+-- The factors of a site that document 01 accepts are in their ranges.
 use mathlib.Core.Path.{_≡_, refl}
 use mathlib.Core.Bool.{Bool, true, false}
 use mathlib.Core.List.{List}
@@ -8,7 +8,7 @@ use native.Mathlib.Omega.{arith}
 use lib.Dec.{ltb}
 use lib.ListN.{length, getD, List·getD-eq-default}
 use borrow.Author.Tests.{ltb-true, ltb-false}
-use Rattle.points.specs.OwnFits.{BasisFits}
+use Rattle.points.specs.OwnFits.{SiteFactorsFit}
 use Rattle.points.specs.DonorFits.{CasFit}
 use Rattle.lists.specs.Lists.{tab, sum}
 use Rattle.lists.proofs.Laws.{length-tab, getD-tab0}
@@ -20,9 +20,9 @@ use Rattle.note.proofs.Factors.{theta-most}
 use Rattle.note.proofs.History.{ca-not-zero, ca-at-most}
 use Rattle.history.specs.Years.{casFrom, casSum}
 use Rattle.history.specs.Fits.{AtMost}
-use Rattle.curve.specs.YearPlaces.{held}
-use Rattle.curve.specs.Places.{basisOf}
-use Rattle.curve.specs.PlaceFits.{HeldFits}
+use Rattle.curve.specs.YearPlaces.{fileData}
+use Rattle.curve.specs.Places.{siteFactorsOf}
+use Rattle.curve.specs.PlaceFits.{FileDataFits}
 use Rattle.curve.specs.Fits.{SiteFits, ListsFit}
 
 caAt : ℕ → ℕ → ℕ → ℕ
@@ -63,7 +63,7 @@ module _ (al f ps : ℕ) (s : SiteFits al f ps) where
 
   some-ca : (k : ℕ) → k < span .count → 0 < caOf (span .first + k) f
   unfolding span
-  some-ca k h = ca-not-zero al f (span .first + k) (s .late) (among-words span (span .first + k) .1 (omega arith, omega (arith, h)))
+  some-ca k h = ca-not-zero al f (span .first + k) (s .notTooSoon) (among-words span (span .first + k) .1 (omega arith, omega (arith, h)))
 
   cas-some : (k : ℕ) → k < span .count → 0 < getD (casFrom (span .first) f) k 0
   unfolding casFrom caAt
@@ -76,8 +76,8 @@ module _ (al f ps : ℕ) (s : SiteFits al f ps) where
   unfolding casSum tab sum
   sum-some (suc n) h g = omega (arith, cas-some 0 (omega arith))
 
-  pub basis-fits : BasisFits (basisOf al f ps)
-  unfolding basisOf span
+  pub basis-fits : SiteFactorsFit (siteFactorsOf al f ps)
+  unfolding siteFactorsOf span
   basis-fits =
       let n = span .count in
       record {
@@ -89,12 +89,12 @@ module _ (al f ps : ℕ) (s : SiteFits al f ps) where
         most-cas = omega (arith, sum-most n (casFrom (span .first) f) (cas-most (span .first) f), few-years);
       }
 
-  pub site-cas : CasFit (basisOf al f ps .count) (casFrom (basisOf al f ps .first) f)
-  unfolding basisOf span
+  pub site-cas : CasFit (siteFactorsOf al f ps .count) (casFrom (siteFactorsOf al f ps .first) f)
+  unfolding siteFactorsOf span
   site-cas = cas-fit
 
-  pub held-fits : (near far profiles es ts cs is rs : List ℕ) → ListsFit al near far profiles es ts rs
-      → HeldFits (basisOf al f ps) (held near far profiles es ts cs is (casFrom (basisOf al f ps .first) f))
-  unfolding basisOf
+  pub held-fits : (near far profiles es ts : List ℕ) (cs is : List Bool) (rs : List ℕ) → ListsFit al near far profiles es ts rs
+      → FileDataFits (siteFactorsOf al f ps) (fileData near far profiles es ts cs is (casFrom (siteFactorsOf al f ps .first) f))
+  unfolding siteFactorsOf
   held-fits near far profiles es ts cs is rs g =
       record { points = g .points; slots = g .slots; energies = g .energies; totals = g .totals; cas = site-cas }

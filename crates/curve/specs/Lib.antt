@@ -1,5 +1,5 @@
-pub mod Tallies
-pub mod TallyFits
+pub mod PlaceSums
+pub mod PlaceSumFits
 pub mod YearPlaces
 pub mod PlaceFits
 pub mod Places

@@ -1,51 +1,64 @@
 // All years of the history: the curve, the points present by year, their sum and count, and whether 18 holds.
 ghost use mathlib.Core.Path.{_≡_};
-ghost use Prim.Native.Nat.{_≤_, _<_};
 ghost use lib.ListN.{replicate};
 ghost use Rattle.meaning.specs.Level.{missingEntry};
 ghost use Rattle.history.specs.Years.{casFrom};
-ghost use Rattle.points.specs.OwnFits.{BasisFits};
+ghost use Rattle.points.specs.OwnFits.{SiteFactorsFit};
 ghost use Rattle.points.specs.Fits.{RatesFit};
-ghost use Rattle.curve.specs.YearPlaces.{held, heldWith, marks};
-ghost use Rattle.curve.specs.PlaceFits.{HeldFits};
-ghost use Rattle.curve.specs.Places.{basisOf};
-ghost use Rattle.curve.specs.Fits.{SiteFits, ListsFit, BasisIs, Filled};
-use crate::Filling;
-use crate::places::Marks;
-use points::Basis;
-use points::Year;
+ghost use Rattle.curve.specs.YearPlaces.{fileDataWith};
+ghost use Rattle.curve.specs.PlaceFits.{FileDataFits};
+ghost use Rattle.curve.specs.Places.{siteFactorsOf};
+ghost use Rattle.curve.specs.Fits.{SiteFits, ListsFit, SiteFactorsAre, CurveTotalsAre};
+use crate::CurveTotals;
+use crate::places::year_places;
+use history::Case;
+use history::ValidYears;
+use points::SiteFactors;
+use points::TargetYear;
 
-// Each year in turn, from a curve whose entries are all missing. A year's points do not stop where one is refusal 18: the curve is then not used.
+// Enters year after year, in a curve whose entries are all missing. A year is not cut short where a point is refusal 18: the curve is then not used.
 fn all_years<'a>(
-    b: Basis,
-    m: Marks,
+    site: SiteFactors,
+    valid: ValidYears,
     near: &'a [u32],
     far: &'a [u32],
     slots: &[u16],
     energies: &[u64; 4392],
     totals: &[u64; 4392],
-    codes: &[u64; 10],
+    cas: &[u64; 10],
+    cases: [Case; 10],
     rates: &[u64; 10],
     curve: &mut [u64; 4400],
-) -> Filling
-    requires { ⌜ BasisFits b × HeldFits b (heldWith (now near) (now far) (now slots) (now energies) (now totals) m) × RatesFit (now rates) ⌝ }
+) -> CurveTotals
+    requires { ⌜ SiteFactorsFit site × FileDataFits site (fileDataWith (now near) (now far) (now slots) (now energies) (now totals) valid (now cas)) × RatesFit (now rates) ⌝ }
     requires { ⌜ now curve ≡ replicate 4400 missingEntry ⌝ }
-    ensures { λ r. ⌜ Filled b (heldWith (now (near .entry)) (now (far .entry)) (now (slots .entry)) (now (energies .entry)) (now (totals .entry)) m) (now (codes .entry)) (now (rates .entry)) (now (curve .exit)) r ⌝ }
+    ensures { λ r. ⌜ CurveTotalsAre site (fileDataWith (now (near .entry)) (now (far .entry)) (now (slots .entry)) (now (energies .entry)) (now (totals .entry)) valid (now (cas .entry))) cases (now (rates .entry)) (now (curve .exit)) r ⌝ }
 {
-    let n = b.count as usize;
-    let mut t = crate::tallies::NOTHING;
+    let n = site.count as usize;
+    let mut t = crate::place_sums::NOTHING;
     let mut present = [0u64; 10];
     let mut k = 0;
     while k < n {
-        let case = history::case_at(codes[k]);
+        let case = cases[k];
         let rate = rates[k];
-        let y = Year { k, case, rate };
-        let p = crate::places::year_places(b, m, y, near, far, slots, energies, totals, curve);
+        let target = TargetYear { k, case, rate };
+        let p = year_places(
+            site,
+            valid,
+            target,
+            near,
+            far,
+            slots,
+            energies,
+            totals,
+            cas,
+            curve,
+        );
         present[k] = p.counted;
-        t = crate::tallies::plus(t, p);
+        t = crate::place_sums::plus(t, p);
         k += 1;
     }
-    Filling {
+    CurveTotals {
         exceeds: t.exceeds,
         sum: t.sum,
         counted: t.counted,
@@ -53,39 +66,25 @@ fn all_years<'a>(
     }
 }
 
-// The history, theta and CA of a site's AL and filière.
-fn basis_of(al: u64, filiere: u64, ps: u64) -> Basis
+// The history, theta and CA sum for a site's AL and filière.
+fn site_factors(al: u64, filiere: u64, ps: u64) -> SiteFactors
     requires { ⌜ SiteFits al filiere ps ⌝ }
-    ensures { λ r. ⌜ BasisIs al filiere ps r ⌝ }
+    ensures { λ r. ⌜ SiteFactorsAre al filiere ps r ⌝ }
 {
-    let h = calendar::history(al, filiere);
-    let cas = history::cas_from(h.first, filiere);
-    let n = h.count as usize;
-    Basis {
+    let years = calendar::history(al, filiere);
+    let cas = history::cas_from(years.first, filiere);
+    let n = years.count as usize;
+    SiteFactors {
         al,
-        first: h.first,
-        count: h.count,
+        first: years.first,
+        count: years.count,
         ps,
         theta: note::theta(filiere),
-        cas: history::cas_sum(&cas, n),
+        ca_sum: history::cas_sum(&cas, n),
     }
 }
 
-// The marks of the history years with their CA.
-fn marks_of(curves: &[u64; 10], indexes: &[u64; 10], first: u64, filiere: u64) -> Marks
-    requires { ⌜ first ≤ 2021 ⌝ }
-    ensures { λ r. ⌜ r ≡ marks (now (curves .entry)) (now (indexes .entry)) (casFrom first filiere) ⌝ }
-{
-    let c = *curves;
-    let i = *indexes;
-    Marks {
-        curves: c,
-        indexes: i,
-        cas: history::cas_from(first, filiere),
-    }
-}
-
-// The site's own figures, then all years. The curve comes in with every entry missing.
+// Fills the curve, whose entries are all missing before, and returns its totals.
 pub fn fill<'a>(
     al: u64,
     filiere: u64,
@@ -95,27 +94,27 @@ pub fn fill<'a>(
     slots: &[u16],
     energies: &[u64; 4392],
     totals: &[u64; 4392],
-    curves: &[u64; 10],
-    indexes: &[u64; 10],
-    codes: &[u64; 10],
+    valid: ValidYears,
+    cases: [Case; 10],
     rates: &[u64; 10],
     curve: &mut [u64; 4400],
-) -> Filling
+) -> CurveTotals
     requires { ⌜ SiteFits al filiere ps × ListsFit al (now near) (now far) (now slots) (now energies) (now totals) (now rates) ⌝ }
     requires { ⌜ now curve ≡ replicate 4400 missingEntry ⌝ }
-    ensures { λ r. ⌜ Filled (basisOf al filiere ps) (held (now (near .entry)) (now (far .entry)) (now (slots .entry)) (now (energies .entry)) (now (totals .entry)) (now (curves .entry)) (now (indexes .entry)) (casFrom (basisOf al filiere ps .first) filiere)) (now (codes .entry)) (now (rates .entry)) (now (curve .exit)) r ⌝ }
+    ensures { λ r. ⌜ CurveTotalsAre (siteFactorsOf al filiere ps) (fileDataWith (now (near .entry)) (now (far .entry)) (now (slots .entry)) (now (energies .entry)) (now (totals .entry)) valid (casFrom (siteFactorsOf al filiere ps .first) filiere)) cases (now (rates .entry)) (now (curve .exit)) r ⌝ }
 {
-    let b = basis_of(al, filiere, ps);
-    let m = marks_of(curves, indexes, b.first, filiere);
+    let site = site_factors(al, filiere, ps);
+    let cas = history::cas_from(site.first, filiere);
     all_years(
-        b,
-        m,
+        site,
+        valid,
         near,
         far,
         slots,
         energies,
         totals,
-        codes,
+        &cas,
+        cases,
         rates,
         curve,
     )

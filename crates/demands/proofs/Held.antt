@@ -1,4 +1,4 @@
--- A record and blocks that hold a file: they judge the next line, and read at the close, as its lines do.
+-- A record and blocks that hold a file: the next line is checked, and the filing read at the close, by them as by its lines.
 pub mod Counts
 pub mod Parts
 pub mod Order
@@ -26,4 +26,4 @@ pub mod Contents
 pub mod Opening
 pub mod Start
 pub mod Further
-pub mod World
+pub mod Blocks

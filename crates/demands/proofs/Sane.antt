@@ -17,22 +17,22 @@ use Rattle.note.proofs.History.{known, ca-not-zero, ca-twofold}
 use Rattle.meaning.specs.Filing.{Filing, historyOf}
 use Rattle.meaning.specs.Line.{Line}
 use Rattle.meaning.specs.File.{siteIn, historyIn, endedIn, filingIn}
-use Rattle.meaning.specs.Closing.{Lack, unended, partial, lacking, zeroTotal, tooHigh, lacks, lackOrder, closingRefusal}
-use Rattle.meaning.specs.Blocks.{World}
+use Rattle.meaning.specs.Closing.{CloseReason, noEnd, partial, noData, zeroTotal, tooHigh, closeHolds, closeOrder, closingRefusal}
+use Rattle.meaning.specs.Blocks.{Blocks}
 use Rattle.meaning.specs.Record.{Rec, isTaken, historyOfRec, isWithin, byYear, rateOfCode, filingHeld, filingOf}
 use Rattle.meaning.proofs.Accepted.{between}
 use Rattle.meaning.proofs.Lines.{timely}
 use Rattle.demands.proofs.Bound.Sane.{Sane}
-use Rattle.demands.proofs.Held.Parts.{HeldRec, HeldWorld}
+use Rattle.demands.proofs.Held.Parts.{HeldRec, HeldBlocks}
 use Rattle.demands.proofs.Held.Ranges.{each-year-at}
 use Rattle.demands.proofs.Held.Rec.{held-history, held-kept}
 use Rattle.demands.proofs.Held.Follows.{held-taken, held-known, held-timely}
 
 pub ended : (F : Filing) → closingRefusal F ≡ none → T (F .ended)
-unfolding closingRefusal lackOrder lacks
-ended F e = go (first-none (λ k. lacks k F) lackOrder e)
+unfolding closingRefusal closeOrder closeHolds
+ended F e = go (first-none (λ k. closeHolds k F) closeOrder e)
   where
-    go : Each (λ (k : Lack). T (not (lacks k F))) (unended ∷ partial ∷ lacking ∷ zeroTotal ∷ tooHigh ∷ []) → T (F .ended)
+    go : Each (λ (k : CloseReason). T (not (closeHolds k F))) (noEnd ∷ partial ∷ noData ∷ zeroTotal ∷ tooHigh ∷ []) → T (F .ended)
     go (each-cons a r) = not-not (F .ended) a
 
 taken : (ls : List Line) (s : Rec) → HeldRec ls s → T (endedIn ls) → T (isTaken s)
@@ -40,7 +40,7 @@ unfolding endedIn any
 taken [] s h t = absurd t
 taken (l ∷ ls) s h t = held-taken h
 
--- a rate that is there is in its range
+-- a rate that is present is in its range
 rate-of : (n r : ℕ) → T (eqb n 0 || isWithin 10 1000 n) → rateOfCode n ≡ some r → (10 ≤ r) × (r ≤ 1000)
 unfolding rateOfCode isWithin
 rate-of n r t e = go (eqb n 0) t e
@@ -56,7 +56,7 @@ rate-held h ns y r a c l t e =
     let m = among-words h y .0 a in
     rate-of (getD ns (y - h .first) 0) r (each-year-at h (λ z n. eqb n 0 || isWithin 10 1000 n) ns y t a (omega arith)) (rw (is-true (among h y) a) at e)
 
-module _ (ls : List Line) (s : Rec) (w : World) (h : HeldRec ls s) (k : HeldWorld ls s w) (e : closingRefusal (filingIn ls) ≡ none) where
+module _ (ls : List Line) (s : Rec) (w : Blocks) (h : HeldRec ls s) (k : HeldBlocks ls s w) (e : closingRefusal (filingIn ls) ≡ none) where
   site-known : T (isKnown (siteIn ls .al) (siteIn ls .filiere))
   unfolding filingIn
   site-known = rw (h .site) at (held-known h (taken ls s h (ended (filingIn ls) e)))

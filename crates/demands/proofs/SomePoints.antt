@@ -1,4 +1,4 @@
--- A close that reports counts some point, whatever record and blocks it was given (document 01: the count is never 0).
+-- A close that reports counts some point, whatever record and blocks it got (document 01: the count is never 0).
 use mathlib.Core.Path.{_≡_, refl, ap}
 use mathlib.Core.Bool.{Bool, true, false, not, _&&_, cond}
 use mathlib.Core.Option.{Option, some, none}
@@ -10,10 +10,10 @@ use Rattle.calendar.specs.Spans.{isKnown}
 use Rattle.meaning.specs.Filing.{Site, Filing}
 use Rattle.meaning.specs.Refusals.{isTooSoon}
 use Rattle.meaning.specs.Level.{Report, reportOf}
-use Rattle.meaning.specs.Closing.{Lack, closingRefusal}
-use Rattle.meaning.specs.Blocks.{World, sizesFit}
-use Rattle.meaning.specs.Record.{Rec, isTaken, siteOfRec, isWithin, siteFits, recFits, contentsFit, filingHeld, filingOf}
-use Rattle.meaning.specs.Calls.{reports, leaves, closed, closeOf}
+use Rattle.meaning.specs.Closing.{CloseReason, closingRefusal}
+use Rattle.meaning.specs.Blocks.{Blocks, sizesFit}
+use Rattle.meaning.specs.Record.{isOpen, Rec, isTaken, siteOfRec, isWithin, siteFits, recFits, contentsFit, filingHeld, filingOf}
+use Rattle.meaning.specs.Calls.{reported, leaves, closeBy, closeOf}
 use Rattle.demands.proofs.Bound.Counted.{some-point}
 use Rattle.demands.proofs.Sane.{ended}
 
@@ -29,16 +29,16 @@ taken : (s : Rec) → T (eqb (s .last) 8) → isTaken s ≡ true
 unfolding isTaken
 taken s t = let e : s .last ≡ 8 = lib.Dec.eqb→eq (s .last) 8 t in rw e
 
-known : (s : Rec) (w : World) → T (recFits s) → T (filingOf s w .ended) → T (isKnown (filingOf s w .site .al) (filingOf s w .site .filiere))
+known : (s : Rec) (w : Blocks) → T (recFits s) → T (filingOf s w .ended) → T (isKnown (filingOf s w .site .al) (filingOf s w .site .filiere))
 unfolding recFits filingOf filingHeld siteOfRec
 known s w f t =
-    let a = and-parts (leb (s .state) 3 && (leb (s .count) 9999 && leb (s .last) 8)) _ f in
+    let a = and-parts (leb (s .count) 9999 && leb (s .last) 8) _ f in
     let b = and-parts (siteFits (isTaken s) (s .site) && not (isTooSoon (s .site .al) (s .site .filiere))) _ (a .1) in
     let c = and-parts (siteFits (isTaken s) (s .site)) _ (b .0) in
     rw (taken s t) (site-known (s .site) (rw (taken s t) at (c .0)))
 
-closed-points : (s : Rec) (w : World) (r : Report) → T (recFits s) → (o : Option Lack) → closingRefusal (filingOf s w) ≡ o → (closed o s w) .answer ≡ reports r → 0 < r .points
-unfolding closed reportOf
+closed-points : (s : Rec) (w : Blocks) (r : Report) → T (recFits s) → (o : Option CloseReason) → closingRefusal (filingOf s w) ≡ o → (closeBy o s w) .answer ≡ reported r → 0 < r .points
+unfolding closeBy reportOf
 closed-points s w r f none e q =
     let p : reportOf (filingOf s w) ≡ r = cc in
     rw (ap (λ (x : Report). x .points) p) at (points-of (filingOf s w) (known s w f (ended (filingOf s w) e)))
@@ -47,15 +47,15 @@ closed-points s w r f none e q =
     points-of F k = some-point F k
 closed-points s w r f (some k) e q = let z : _≡_ {A = ℕ} 0 1 = cc in absurd (omega arith)
 
-pub close-counts : (s : Rec) (w : World) (r : Report) → (closeOf s w) .answer ≡ reports r → 0 < r .points
+pub close-counts : (s : Rec) (w : Blocks) (r : Report) → (closeOf s w) .answer ≡ reported r → 0 < r .points
 unfolding closeOf leaves
-close-counts s w r q = go (sizesFit w && (recFits s && contentsFit s w)) (eqb (s .state) 1) refl q
+close-counts s w r q = go (sizesFit w && (recFits s && contentsFit s w)) (isOpen (s .state)) refl q
   where
     parts : T (sizesFit w && (recFits s && contentsFit s w)) → T (recFits s)
     parts t = and-parts (recFits s) (contentsFit s w) (and-parts (sizesFit w) (recFits s && contentsFit s w) t .1) .0
 
     go : (a b : Bool) → (sizesFit w && (recFits s && contentsFit s w)) ≡ a
-        → (cond a (cond b (closed (closingRefusal (filingOf s w)) s w) (leaves 13 s w)) (leaves 1 s w)) .answer ≡ reports r → 0 < r .points
+        → (cond a (cond b (closeBy (closingRefusal (filingOf s w)) s w) (leaves 13 s w)) (leaves 1 s w)) .answer ≡ reported r → 0 < r .points
     go true true e p = closed-points s w r (parts (rw e tt)) (closingRefusal (filingOf s w)) refl p
     go true false e p = let z : _≡_ {A = ℕ} 0 1 = cc in absurd (omega arith)
     go false b e p = let z : _≡_ {A = ℕ} 0 1 = cc in absurd (omega arith)

@@ -1,4 +1,4 @@
--- The three demands speak of something: a file gets a level, every run over it reports that level, and demand 3 bounds it.
+-- The three demands are not empty: a file gets a level, every run over it reports that level, and demand 3 bounds it.
 use mathlib.Core.Path.{_≡_, ap, subst, _∙_}
 use mathlib.Core.Bool.{Bool, cond}
 use mathlib.Core.List.{List, [], _∷_, _++_, map}
@@ -16,9 +16,9 @@ use Rattle.meaning.specs.Line.{Line}
 use Rattle.meaning.specs.File.{siteIn, filingIn}
 use Rattle.meaning.specs.Level.{Report, reportOf}
 use Rattle.meaning.specs.Closing.{closingRefusal}
-use Rattle.meaning.specs.Blocks.{World, sizesFit, freshWorld}
+use Rattle.meaning.specs.Blocks.{Blocks, sizesFit, freshBlocks}
 use Rattle.meaning.specs.Record.{Rec, neverOpened, freshRec}
-use Rattle.meaning.specs.Calls.{Answer, took, reports, out, leaves, openingOf}
+use Rattle.meaning.specs.Calls.{Answer, accepted, reported, out, leaves, openingOf}
 use Rattle.meaning.specs.Sheet.{level, Outcome, sheetOf}
 use Rattle.demands.specs.CallLists.{line, close, Answered, answersOf, run}
 use Rattle.demands.specs.Demands.{Bounded, BoundedIfReported}
@@ -36,21 +36,21 @@ pub mod CurvesAlone
 pub mod Lines
 pub mod Contents
 
--- a report among answers that demand 3 speaks of is within its bound
+-- a report among the answers of demand 3 is within its bound
 reported-within : (f : List Line) {xs : List Answered} → Some (Reported f) xs → Each (λ (a : Answered). BoundedIfReported (a .file) (a .answer)) xs
     → Bounded (filingIn f) (reportOf (filingIn f))
 unfolding BoundedIfReported
 reported-within f s r =
     let e = paired s r in
-    subst (λ (g : List Line). BoundedIfReported g (reports (reportOf (filingIn f)))) (e .1 .0)
+    subst (λ (g : List Line). BoundedIfReported g (reported (reportOf (filingIn f)))) (e .1 .0)
     (subst (λ (k : Answer). BoundedIfReported (e .0 .file) k) (e .1 .1) (e .2))
 
-fresh-fits : T (sizesFit freshWorld)
-fresh-fits = held-fresh .world .sized
+fresh-fits : T (sizesFit freshBlocks)
+fresh-fits = held-fresh .blocks .sized
 
-opening-taken : (s : Rec) (w : World) → T (sizesFit w) → (openingOf s w) .answer ≡ took
+opening-taken : (s : Rec) (w : Blocks) → T (sizesFit w) → (openingOf s w) .answer ≡ accepted
 unfolding openingOf
-opening-taken s w t = ap (λ (b : Bool). (cond b (out took freshRec freshWorld) (leaves 1 s w)) .answer) (is-true (sizesFit w) t)
+opening-taken s w t = ap (λ (b : Bool). (cond b (out accepted freshRec freshBlocks) (leaves 1 s w)) .answer) (is-true (sizesFit w) t)
 
 known-at : (al f : ℕ) → al ≡ 2024 → f ≡ 2 → T (isKnown al f)
 unfolding isKnown
@@ -91,15 +91,15 @@ pub witness : (r : Report) × (sheetOf witnessLines ≡ level r)
 witness = (reportOf (filingIn witnessLines), its-level)
 
 -- so does every run over it
-pub witness-run : (s : Rec) (w : World) → T (sizesFit w) → run s w witnessLines .sheet ≡ level (reportOf (filingIn witnessLines))
+pub witness-run : (s : Rec) (w : Blocks) → T (sizesFit w) → run s w witnessLines .sheet ≡ level (reportOf (filingIn witnessLines))
 unfolding sheetOf
 witness-run s w t = ap (λ (o : Outcome). o .sheet) (demand-2 s w t witnessLines) ∙ its-level
 
--- so do the calls that demand 3 speaks of, with the file that it speaks of
-pub witness-bounded : (s : Rec) (w : World) → T (sizesFit w)
-    → Some (λ (a : Answered). (a .file ≡ witnessLines) × (a .answer ≡ reports (reportOf (filingIn witnessLines)))) (answersOf s w (map line witnessLines ++ (close ∷ [])))
+-- so do the calls of demand 3, with their file
+pub witness-bounded : (s : Rec) (w : Blocks) → T (sizesFit w)
+    → Some (λ (a : Answered). (a .file ≡ witnessLines) × (a .answer ≡ reported (reportOf (filingIn witnessLines)))) (answersOf s w (map line witnessLines ++ (close ∷ [])))
 witness-bounded s w t = taken-answers witnessLines taken not-refused s w t
 
 -- which puts that level within the bound of the exact fraction
 pub witness-within : Bounded (filingIn witnessLines) (reportOf (filingIn witnessLines))
-witness-within = reported-within witnessLines (witness-bounded neverOpened freshWorld fresh-fits) (demand-3 neverOpened freshWorld (opening-taken neverOpened freshWorld fresh-fits) _)
+witness-within = reported-within witnessLines (witness-bounded neverOpened freshBlocks fresh-fits) (demand-3 neverOpened freshBlocks (opening-taken neverOpened freshBlocks fresh-fits) _)

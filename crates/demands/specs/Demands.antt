@@ -11,10 +11,10 @@ use Rattle.meaning.specs.Line.{Line}
 use Rattle.meaning.specs.File.{filingIn}
 use Rattle.meaning.specs.Level.{Report, lowestRate}
 use Rattle.demands.specs.Exact.{exactFraction}
-use Rattle.meaning.specs.Blocks.{World, sizesFit}
+use Rattle.meaning.specs.Blocks.{Blocks, sizesFit}
 use Rattle.meaning.specs.Record.{Rec}
-use Rattle.meaning.specs.Calls.{Answer, took, refused, reports, Out, openingOf}
-use Rattle.meaning.specs.Sheet.{Sheet, stopped, level, outcomeOf}
+use Rattle.meaning.specs.Calls.{Answer, accepted, refused, reported, Out, openingOf}
+use Rattle.meaning.specs.Sheet.{Sheet, refusedSheet, level, outcomeOf}
 use Rattle.demands.specs.CallLists.{Call, opening, line, close, called, Answered, answersOf, run}
 
 -- ---- demand 1: a call is accepted or refused with a number of document 01, and a refusal leaves every lent list
@@ -24,7 +24,7 @@ Number opening n = n ≡ 1
 Number (line l) n = (1 ≤ n) × (n ≤ 13)
 Number close n = (n ≡ 1) ⊎ ((13 ≤ n) × (n ≤ 18))
 
-pub record Unchanged (w v : World) : Type 0 where
+pub record Unchanged (w v : Blocks) : Type 0 where
   pub near : v .near ≡ w .near
   pub far : v .far ≡ w .far
   pub slots : v .slots ≡ w .slots
@@ -33,29 +33,29 @@ pub record Unchanged (w v : World) : Type 0 where
   pub curve : v .curve ≡ w .curve
 
 -- an opening or a line is taken, a close reports, or the call is refused
-unfoldable pub Answers : Call → World → Out → Answer → Type 0
-Answers opening w o took = Unit {0}
-Answers opening w o (refused n c) = Number opening n × Unchanged w (o .world)
-Answers opening w o (reports r) = ⊥
-Answers (line l) w o took = Unit {0}
-Answers (line l) w o (refused n c) = Number (line l) n × Unchanged w (o .world)
-Answers (line l) w o (reports r) = ⊥
-Answers close w o took = ⊥
-Answers close w o (refused n c) = Number close n × Unchanged w (o .world)
-Answers close w o (reports r) = Unit {0}
+unfoldable pub Answers : Call → Blocks → Out → Answer → Type 0
+Answers opening w o accepted = Unit {0}
+Answers opening w o (refused n c) = Number opening n × Unchanged w (o .blocks)
+Answers opening w o (reported r) = ⊥
+Answers (line l) w o accepted = Unit {0}
+Answers (line l) w o (refused n c) = Number (line l) n × Unchanged w (o .blocks)
+Answers (line l) w o (reported r) = ⊥
+Answers close w o accepted = ⊥
+Answers close w o (refused n c) = Number close n × Unchanged w (o .blocks)
+Answers close w o (reported r) = Unit {0}
 
 -- a run ends in one sheet: a level, or a refusal by a number of document 01
 unfoldable pub Ends : Sheet → Type 0
-Ends (stopped n c) = (1 ≤ n) × (n ≤ 18)
+Ends (refusedSheet n c) = (1 ≤ n) × (n ≤ 18)
 Ends (level r) = Unit {0}
 
 pub record Demand-1 : Type 0 where
-  pub calls : (k : Call) (s : Rec) (w : World) → Answers k w (called k s w) ((called k s w) .answer)
-  pub runs : (s : Rec) (w : World) (ls : List Line) → Ends (run s w ls .sheet)
+  pub calls : (k : Call) (s : Rec) (w : Blocks) → Answers k w (called k s w) ((called k s w) .answer)
+  pub runs : (s : Rec) (w : Blocks) (ls : List Line) → Ends (run s w ls .sheet)
 
 -- ---- demand 2: whatever the record and the blocks held, what opening, lines and close report and the curve that they leave are those of the lines
 abbrev pub Demand-2 : Type 0
-Demand-2 = (s : Rec) (w : World) → T (sizesFit w) → (ls : List Line) → run s w ls ≡ outcomeOf ls
+Demand-2 = (s : Rec) (w : Blocks) → T (sizesFit w) → (ls : List Line) → run s w ls ≡ outcomeOf ls
 
 -- ---- demand 3
 -- the bound in mW over 2 × T: 500 from whole watts, a half where rates round, and so many halves, before the rate, times 1000 / T
@@ -74,12 +74,12 @@ abbrev pub Bounded : Filing → Report → Type 0
 Bounded F r = Within 3 1 (lowestRate F) (r .level) (exactFraction F)
 
 unfoldable pub BoundedIfReported : List Line → Answer → Type 0
-BoundedIfReported f took = Unit {0}
+BoundedIfReported f accepted = Unit {0}
 BoundedIfReported f (refused n c) = Unit {0}
-BoundedIfReported f (reports r) = Bounded (filingIn f) r
+BoundedIfReported f (reported r) = Bounded (filingIn f) r
 
 -- for every list of calls that starts with an opening that is not refused, on whatever record and blocks
 abbrev pub Demand-3 : Type 0
 Demand-3 =
-    (s : Rec) (w : World) → (openingOf s w) .answer ≡ took → (ks : List Call)
+    (s : Rec) (w : Blocks) → (openingOf s w) .answer ≡ accepted → (ks : List Call)
     → Each (λ (a : Answered). BoundedIfReported (a .file) (a .answer)) (answersOf s w ks)

@@ -6,7 +6,7 @@ use lib.ListN.{length}
 use Rattle.lists.specs.Lists.{present}
 use Rattle.rounding.specs.Points.{Fraction, over, byDefault}
 use Rattle.meaning.specs.Filing.{Filing}
-use Rattle.meaning.specs.Points.{fractionOf, Donor, donorCas, Source, missing, own, fromDonors, fromDefault, Place, allPlaces}
+use Rattle.meaning.specs.Points.{fractionOf, Donor, donorCas, Source, missing, own, fromDonors, fromDefault, CurvePlace, allPlaces}
 use Rattle.meaning.specs.Level.{coefficientOf}
 
 -- ---- fractions: sum, product with and quotient by a number
@@ -37,10 +37,10 @@ unfoldable pub exactBy : Option ℕ → Option Fraction → Option Fraction
 exactBy r none = none
 exactBy r (some q) = some (exactRate r q)
 
-unfoldable pub exactAt : Place → Option Fraction
+unfoldable pub exactAt : CurvePlace → Option Fraction
 exactAt q = exactBy (q .rate) (exactly (q .source))
 
-unfoldable pub exactPoints : List Place → List Fraction
+unfoldable pub exactPoints : List CurvePlace → List Fraction
 exactPoints qs = present (map exactAt qs)
 
 -- C, in hundredths, times the sum of the present points over their count

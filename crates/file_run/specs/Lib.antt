@@ -1,2 +1,2 @@
-pub mod ReadingStops
-pub mod HandedOut
+pub mod ReadEnds
+pub mod PrintedSheets

@@ -1,88 +1,88 @@
-// When a run stops reading, and what it hands out.
+// When a run stops reading, and what it returns.
 use answers::Answer;
-use close::Year;
-use pieces::least;
+use close::YearRow;
+use pieces::smaller;
 use sheet::Printed;
 use sheet::text;
 ghost use mathlib.Core.Path.{_≡_};
 ghost use Prim.Native.Nat.{_<_};
-ghost use Rattle.file_run.specs.ReadingStops.{isNegative, leftAfter, Tells};
+ghost use Rattle.file_run.specs.ReadEnds.{isNegative, readStateAfter, FileResultIs};
 
-// What ended a run: its answer, the input's end, or a read that failed.
+// What ended a run: its final answer, the input's end, or a read that failed.
 pub enum End {
     Answer,
     Input,
     Failure,
 }
 
-// The sheet's text; none where a read failed.
-pub struct Filed {
+// What ended the run, and the sheet's text, none where a read failed.
+pub struct FileResult {
     pub end: End,
     pub printed: Printed,
 }
 
-// Turns that are left for reading, and what ends the run if none is.
-pub(crate) struct Left {
+// How many reads are left, and what ended the run if none is.
+pub(crate) struct ReadState {
     pub turns: u64,
     pub end: End,
 }
 
-// What the read answered, the bytes that came, whether they gave the run its answer, and the turns that were left.
-pub(crate) fn after(got: isize, bytes: usize, answered: bool, turns: u64) -> Left
+// The state after a read, by what it returned, the bytes that came, whether the run then had its final answer, and how many reads were left.
+pub(crate) fn read_state_after(got: isize, bytes: usize, answered: bool, turns: u64) -> ReadState
     requires { ⌜ 0 < turns ⌝ }
-    ensures { λ r. ⌜ r ≡ leftAfter (isNegative got) bytes answered turns ⌝ }
+    ensures { λ r. ⌜ r ≡ readStateAfter (isNegative got) bytes answered turns ⌝ }
 {
     if got < 0 {
-        return Left {
+        return ReadState {
             turns: 0,
             end: End::Failure,
         };
     }
     if bytes == 0 {
-        return Left {
+        return ReadState {
             turns: 0,
             end: End::Input,
         };
     }
     if answered {
-        return Left {
+        return ReadState {
             turns: 0,
             end: End::Answer,
         };
     }
     let fewer = turns - 1;
-    Left {
+    ReadState {
         turns: fewer,
         end: End::Answer,
     }
 }
 
-// A failed read has no sheet.
-pub(crate) fn told(end: End, answer: Answer, years: [Year; 10]) -> Filed
-    ensures { λ r. ⌜ Tells r end answer years ⌝ }
+// What a run returns: after a failed read no sheet.
+pub(crate) fn file_result(end: End, answer: Answer, years: [YearRow; 10]) -> FileResult
+    ensures { λ r. ⌜ FileResultIs r end answer years ⌝ }
 {
     match end {
-        End::Failure => Filed {
+        End::Failure => FileResult {
             end,
             printed: Printed {
                 bytes: [0u8; 546],
                 length: 0,
             },
         },
-        End::Answer => Filed {
+        End::Answer => FileResult {
             end,
             printed: text(answer, years),
         },
-        End::Input => Filed {
+        End::Input => FileResult {
             end,
             printed: text(answer, years),
         },
     }
 }
 
-// Writes a sheet's text, and answers whether all of it was taken.
+// Writes a sheet's text, and returns whether all of it was written.
 pub fn write(fd: i32, printed: Printed) -> bool {
     let bytes = printed.bytes;
-    let n = least(printed.length, 546);
+    let n = smaller(printed.length, 546);
     io::write_all(fd, &bytes[..n])
 }

@@ -1,42 +1,42 @@
-// Reading a descriptor to the run's answer or the input's end.
+// Reads a descriptor up to the run's final answer or the input's end.
 use crate::ends::End;
-use crate::ends::Filed;
-use crate::ends::after;
-use crate::ends::told;
-use pieces::is_answered;
-use run::Fed;
+use crate::ends::FileResult;
+use crate::ends::file_result;
+use crate::ends::read_state_after;
+use pieces::is_final;
+use run::OwnRun;
 use run::begin;
 use run::feed;
 use run::finish;
 ghost use mathlib.Core.Path.{_≡_};
 ghost use Rattle.pieces.specs.Run.{fed};
-ghost use Rattle.readings.specs.Readings.{seen};
-ghost use Rattle.readings.specs.Columns.{world};
+ghost use Rattle.readings.specs.Readings.{readingsView};
+ghost use Rattle.readings.specs.Columns.{lentBlocks};
 ghost use Rattle.run.specs.RunViews.{runView};
-ghost use Rattle.file_run.specs.HandedOut.{HandsOut};
+ghost use Rattle.file_run.specs.PrintedSheets.{PrintsSheet};
 
-// One more than the bytes after which a run has its answer: 8,032 lines of 321. Each turn reads one or more.
+// One more than the bytes after which a run has its final answer: 8,032 lines of 321. Each read but the last brings one or more.
 const TURNS: u64 = 2_578_273;
 
-// Over one more piece.
-fn go_on(
-    so_far: Fed,
+// The run after one more piece. A function of its own: the loop of `run` passes the run whole.
+fn feed_piece(
+    so_far: OwnRun,
     piece: &[u8],
     near: &mut [u32],
     far: &mut [u32],
     slots: &mut [u16],
     daily: &mut [u32],
     curve: &[u64],
-) -> Fed
-    ensures { λ r. ⌜ runView (r .run) (world (now (near .exit)) (now (far .exit)) (now (slots .exit)) (now (daily .exit)) (seen (r .readings)) (now (curve .entry))) ≡ fed (runView («so_far» .run) (world (now (near .entry)) (now (far .entry)) (now (slots .entry)) (now (daily .entry)) (seen («so_far» .readings)) (now (curve .entry)))) (now (piece .entry)) ⌝ }
+) -> OwnRun
+    ensures { λ r. ⌜ runView (r .run) (lentBlocks (now (near .exit)) (now (far .exit)) (now (slots .exit)) (now (daily .exit)) (readingsView (r .readings)) (now (curve .entry))) ≡ fed (runView («so_far» .run) (lentBlocks (now (near .entry)) (now (far .entry)) (now (slots .entry)) (now (daily .entry)) (readingsView («so_far» .readings)) (now (curve .entry)))) (now (piece .entry)) ⌝ }
 {
     let run = so_far.run;
     let readings = so_far.readings;
     feed(run, readings, piece, near, far, slots, daily, curve)
 }
 
-pub fn run(fd: i32) -> Filed
-    ensures { λ r. ⌜ HandsOut (r .end) (r .printed) ⌝ }
+pub fn run(fd: i32) -> FileResult
+    ensures { λ r. ⌜ PrintsSheet (r .end) (r .printed) ⌝ }
 {
     let mut near = [0u32; 15200];
     let mut far = [0u32; 15200];
@@ -50,7 +50,7 @@ pub fn run(fd: i32) -> Filed
     while 0 < turns {
         let got = libc::read(fd, &mut buf);
         let n = io::count(got, &buf);
-        fed = go_on(
+        fed = feed_piece(
             fed,
             &buf[..n],
             &mut near,
@@ -61,7 +61,7 @@ pub fn run(fd: i32) -> Filed
         );
         let run = fed.run;
         let answer = run.answer;
-        let left = after(got, n, is_answered(answer), turns);
+        let left = read_state_after(got, n, is_final(answer), turns);
         turns = left.turns;
         end = left.end;
     }
@@ -78,5 +78,5 @@ pub fn run(fd: i32) -> Filed
     );
     let answer = closed.answer;
     let years = closed.years;
-    told(end, answer, years)
+    file_result(end, answer, years)
 }

@@ -1,2 +1,2 @@
-pub mod CaseMarks
-pub mod Ten
+pub mod CaseLaws
+pub mod YearTables

@@ -1,4 +1,4 @@
--- What the numbers of ten years come to.
+-- Bounds on the numbers of ten years.
 use mathlib.Core.Path.{_≡_}
 use mathlib.Core.List.{List}
 use Prim.Native.Nat.{ℕ, _*_, _≤_, _<_}

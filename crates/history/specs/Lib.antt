@@ -1,4 +1,4 @@
 pub mod Years
 pub mod Fits
 pub mod Cases
-pub mod Marks
+pub mod ValidYears

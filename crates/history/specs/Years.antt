@@ -1,36 +1,33 @@
--- What ten years have, by the lists that hold a site's years: k is a year's number from the oldest history year, w a winter place.
-use mathlib.Core.Bool.{Bool, _&&_, not, cond}
+-- What a winter day needs of ten years, from the lists of a site: k is a year's number from the oldest history year, w a winter place.
+use mathlib.Core.Bool.{Bool, false, _&&_, cond}
 use mathlib.Core.List.{List}
 use Prim.Native.Nat.{ℕ, _+_, _*_}
-use lib.Dec.{eqb}
+use lib.Dec.{ltb}
 use lib.ListN.{getD}
 use Rattle.lists.specs.Lists.{tab, sum}
 use Rattle.calendar.specs.Places.{hasWinterDate, dateOfWinter}
 use Rattle.note.specs.Coefficients.{caOf}
-use Rattle.history.specs.declared.Day.{Day}
+use Rattle.history.specs.declared.DayData.{DayData}
 
--- a mark is 0 or not
-unfoldable pub isSet : ℕ → Bool
-isSet n = not (eqb n 0)
+-- ten places by history year: f for the n history years, z for years that the file does not have
+unfoldable pub byHistory : {A : Type 0} → ℕ → A → (ℕ → A) → List A
+byHistory n z f = tab 10 0 (λ k. cond (ltb k n) (f k) z)
 
 -- the position of a day: the axis begins a year before the history
 unfoldable pub positionIn : ℕ → ℕ → ℕ
 positionIn k w = 366 * (k + 1) + dateOfWinter w
 
--- of a list by position, what ten years have on a day
+-- the values of a list by position on one winter day of each year
 unfoldable pub onDay : List ℕ → ℕ → List ℕ
 onDay xs w = tab 10 0 (λ k. getD xs (positionIn k w) 0)
 
-unfoldable pub bit : Bool → ℕ
-bit b = cond b 1 0
+-- which of ten years have a valid index and the date
+unfoldable pub isDonorOn : List Bool → ℕ → ℕ → List Bool
+isDonorOn indexes first w = tab 10 0 (λ k. getD indexes k false && hasWinterDate (first + k) w)
 
--- which of ten years are valid index years that have the date
-unfoldable pub giversOn : List ℕ → ℕ → ℕ → List ℕ
-giversOn indexes first w = tab 10 0 (λ k. bit (isSet (getD indexes k 0) && hasWinterDate (first + k) w))
-
--- of a winter day, E and daily total by position, and the valid index years that have the date
-unfoldable pub yearsOn : List ℕ → List ℕ → List ℕ → ℕ → ℕ → Day
-yearsOn energies totals indexes first w = record { energies = onDay energies w; totals = onDay totals w; givers = giversOn indexes first w }
+-- what a winter day needs of ten years, from E and daily total by position and the valid indexes
+unfoldable pub yearsOn : List ℕ → List ℕ → List Bool → ℕ → ℕ → DayData
+yearsOn energies totals indexes first w = record { energies = onDay energies w; totals = onDay totals w; «is_donor» = isDonorOn indexes first w }
 
 -- CA of ten years, and the sum over the n history years
 unfoldable pub casFrom : ℕ → ℕ → List ℕ

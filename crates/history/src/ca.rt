@@ -4,7 +4,7 @@ ghost use Prim.Native.Nat.{_≤_};
 ghost use Rattle.history.specs.Years.{casFrom};
 ghost use Rattle.history.specs.Fits.{AtMost, CasSumIs};
 
-// CA of each year, in thousandths.
+// CA of each of the ten years, in thousandths.
 pub fn cas_from(first: u64, filiere: u64) -> [u64; 10]
     requires { ⌜ first ≤ 2021 ⌝ }
     ensures { λ r. ⌜ r ≡ casFrom first filiere ⌝ }

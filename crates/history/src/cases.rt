@@ -1,7 +1,11 @@
-// The case of a history year, the first that fits, and the number that it is kept as (document 01, Cases).
+// The case of each history year, the first that fits, and which years have default power (document 01, Cases).
 ghost use mathlib.Core.Path.{_≡_};
-ghost use Rattle.meaning.specs.Cases.{mark};
-ghost use Rattle.history.specs.Cases.{codeOfCase, caseOfCode, caseWith};
+ghost use Prim.Native.Nat.{_≤_};
+ghost use Rattle.meaning.specs.Cases.{mark, isDefault};
+ghost use Rattle.line_form.specs.Views.{meterView};
+ghost use Rattle.history.specs.Cases.{caseView, isCurve, someValid, caseWith, casesOf, defaultYears};
+use crate::ValidYears;
+use line_form::Meter;
 
 // Measured; profiled (T1, P); rebuilt from curves (T2) or from profiled years (T3, I5); default power (T4, I6).
 pub enum Case {
@@ -15,14 +19,8 @@ pub enum Case {
     I6,
 }
 
-// The case of a year by the meter, whether some year's curve and some year's index are valid, and the year's own marks.
-pub(crate) fn case_of(
-    curve_meter: bool,
-    some_curve: bool,
-    some_index: bool,
-    curve: bool,
-    index: bool,
-) -> Case
+// The case of a year, from the meter, whether some year's curve or index is valid, and whether its own are.
+fn case_of(curve_meter: bool, some_curve: bool, some_index: bool, curve: bool, index: bool) -> Case
     ensures { λ r. ⌜ r ≡ caseWith «curve_meter» «some_curve» «some_index» (mark curve index) ⌝ }
 {
     if curve_meter {
@@ -49,34 +47,77 @@ pub(crate) fn case_of(
     Case::I6
 }
 
-// The number that a case is kept as.
-pub(crate) fn code_of(case: Case) -> u64
-    ensures { λ r. ⌜ r ≡ codeOfCase case ⌝ }
+fn is_curve(meter: Meter) -> bool
+    ensures { λ r. ⌜ r ≡ isCurve (meterView meter) ⌝ }
 {
-    match case {
-        Case::M => 0,
-        Case::T1 => 1,
-        Case::T2 => 2,
-        Case::T3 => 3,
-        Case::T4 => 4,
-        Case::I5 => 5,
-        Case::I6 => 6,
-        Case::P => 7,
+    match meter {
+        Meter::Curve => true,
+        Meter::NoMeter => false,
+        Meter::Index => false,
     }
 }
 
-// The case of a number.
-pub fn case_at(code: u64) -> Case
-    ensures { λ r. ⌜ r ≡ caseOfCode code ⌝ }
+// Whether one of the first n years is valid.
+fn some_valid(valid: &[bool; 10], n: usize) -> bool
+    requires { ⌜ n ≤ 10 ⌝ }
+    ensures { λ r. ⌜ r ≡ someValid n (now (valid .entry)) ⌝ }
 {
-    match code {
-        0 => Case::M,
-        1 => Case::T1,
-        2 => Case::T2,
-        3 => Case::T3,
-        4 => Case::T4,
-        5 => Case::I5,
-        6 => Case::I6,
-        _ => Case::P,
+    let mut k = 0;
+    while k < n {
+        if valid[k] {
+            return true;
+        }
+        k += 1;
     }
+    false
+}
+
+// The cases of the n history years.
+pub fn cases_of(meter: Meter, valid: ValidYears, n: usize) -> [Case; 10]
+    requires { ⌜ n ≤ 10 ⌝ }
+    ensures { λ r. ⌜ r ≡ casesOf (meterView meter) n (valid .curves) (valid .indexes) ⌝ }
+{
+    let curves = valid.curves;
+    let indexes = valid.indexes;
+    let curve_meter = is_curve(meter);
+    let some_curve = some_valid(&curves, n);
+    let some_index = some_valid(&indexes, n);
+    let mut cases = [Case::M; 10];
+    let mut k = 0;
+    while k < n {
+        let case = case_of(curve_meter, some_curve, some_index, curves[k], indexes[k]);
+        cases[k] = case;
+        k += 1;
+    }
+    cases
+}
+
+fn is_default(case: Case) -> bool
+    ensures { λ r. ⌜ r ≡ isDefault (caseView case) ⌝ }
+{
+    match case {
+        Case::M => false,
+        Case::T1 => false,
+        Case::T2 => false,
+        Case::T3 => false,
+        Case::T4 => true,
+        Case::P => false,
+        Case::I5 => false,
+        Case::I6 => true,
+    }
+}
+
+// Which of the n history years have default power.
+pub fn default_years(cases: [Case; 10], n: usize) -> [bool; 10]
+    requires { ⌜ n ≤ 10 ⌝ }
+    ensures { λ r. ⌜ r ≡ defaultYears n cases ⌝ }
+{
+    let mut defaults = [false; 10];
+    let mut k = 0;
+    while k < n {
+        let case = cases[k];
+        defaults[k] = is_default(case);
+        k += 1;
+    }
+    defaults
 }

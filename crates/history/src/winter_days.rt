@@ -1,11 +1,11 @@
-// What ten years have on a winter day.
+// What a winter day needs of each of ten years.
 ghost use mathlib.Core.Path.{_≡_};
 ghost use mathlib.Core.Bool.{_&&_};
 ghost use Prim.Native.Nat.{_≤_, _<_};
 ghost use Rattle.calendar.specs.Places.{hasWinterDate};
-ghost use Rattle.history.specs.Years.{isSet, onDay, bit, giversOn, yearsOn};
+ghost use Rattle.history.specs.Years.{onDay, isDonorOn, yearsOn};
 ghost use Rattle.history.specs.Fits.{DatePlaceIs};
-use crate::Day;
+use crate::DayData;
 use calendar::Place;
 
 // The date place of a winter place.
@@ -19,7 +19,7 @@ fn date_place(w: usize) -> usize
     }
 }
 
-// What a list by position has on a winter day of each year.
+// The values of a list by position on one winter day of each year.
 fn on_day(values: &[u64; 4392], w: usize) -> [u64; 10]
     requires { ⌜ w < 152 ⌝ }
     ensures { λ r. ⌜ r ≡ onDay (now (values .entry)) w ⌝ }
@@ -35,47 +35,44 @@ fn on_day(values: &[u64; 4392], w: usize) -> [u64; 10]
     out
 }
 
-// 1 where a valid index year has the date, else 0.
-fn gives(index: u64, year: u64, w: usize) -> u64
-    ensures { λ r. ⌜ r ≡ bit (isSet index && hasWinterDate year w) ⌝ }
+// Whether a year has a valid index and the date.
+fn is_donor_year(index: bool, year: u64, w: usize) -> bool
+    ensures { λ r. ⌜ r ≡ (index && hasWinterDate year w) ⌝ }
 {
-    if index == 0 {
-        return 0;
+    if !index {
+        return false;
     }
-    if calendar::has_winter_date(year, w) {
-        return 1;
-    }
-    0
+    calendar::has_winter_date(year, w)
 }
 
-// The index donors of a day: 29 February has only leap years.
-fn givers_on(indexes: &[u64; 10], first: u64, w: usize) -> [u64; 10]
+// Which years are index donors on a day: on 29 February only leap years.
+fn is_donor_on(indexes: &[bool; 10], first: u64, w: usize) -> [bool; 10]
     requires { ⌜ first ≤ 2021 ⌝ }
-    ensures { λ r. ⌜ r ≡ giversOn (now (indexes .entry)) first w ⌝ }
+    ensures { λ r. ⌜ r ≡ isDonorOn (now (indexes .entry)) first w ⌝ }
 {
-    let mut out = [0u64; 10];
+    let mut out = [false; 10];
     let mut k = 0;
     while k < 10 {
-        out[k] = gives(indexes[k], first + (k as u64), w);
+        out[k] = is_donor_year(indexes[k], first + (k as u64), w);
         k += 1;
     }
     out
 }
 
-// A winter day: what it needs of each year.
+// What a winter day needs of each year.
 pub fn day_of(
     energies: &[u64; 4392],
     totals: &[u64; 4392],
-    indexes: &[u64; 10],
+    indexes: &[bool; 10],
     first: u64,
     w: usize,
-) -> Day
+) -> DayData
     requires { ⌜ (first ≤ 2021) × (w < 152) ⌝ }
     ensures { λ r. ⌜ r ≡ yearsOn (now (energies .entry)) (now (totals .entry)) (now (indexes .entry)) first w ⌝ }
 {
-    Day {
+    DayData {
         energies: on_day(energies, w),
         totals: on_day(totals, w),
-        givers: givers_on(indexes, first, w),
+        is_donor: is_donor_on(indexes, first, w),
     }
 }

@@ -1,36 +1,35 @@
--- S, B, R and E: the checks that the code asks are the conditions of the line's refusal, and what it reads of an accepted line is what the line says.
+-- S, B, R and E: the checks of the code are the conditions of the line's refusal, and what it reads from an accepted line is what the line says.
 use mathlib.Core.Path.{_≡_, refl, ap, sym, _∙_}
 use mathlib.Core.Bool.{Bool, true, false, not, _&&_, _||_}
 use mathlib.Core.Option.{none}
 use Prim.Native.Nat.{ℕ}
-use lib.Dec.{eqb, ltb}
+use lib.Dec.{eqb, leb}
 use Rattle.calendar.specs.declared.Years.{Years}
 use Rattle.calendar.specs.Spans.{years, among, historyYears}
 use Rattle.meaning.specs.Filing.{noMeter}
 use Rattle.meaning.specs.Line.{Line, Tag, S, B, R, E, numberAt, yearOn, siteOn, keyOf, mostPower}
 use Rattle.meaning.specs.Refusals.{Before, outside, holds, refusal, isTooSoon}
 use Rattle.meaning.specs.Record.{isWithin}
-use Rattle.line_form.specs.Views.{siteView, meterView, meterShown}
+use Rattle.line_form.specs.Views.{siteView, siteRepr, meterView, meterRepr}
 use Rattle.line_form.specs.declared.Site.{Site}
 use Rattle.line_form.specs.declared.Meter.{Meter}
 use Rattle.line_form.specs.declared.Meter.the-variants.{NoMeter, Curve, Index}
 use Rattle.line_form.specs.Reads.{siteReadOf, yearReadOf, rateReadOf, countReadOf}
 use Rattle.line_form.specs.Ranges.{isSiteOutside, isYearOutside, isRateOutside, isCountOutside}
-use Rattle.line_form.specs.declared.SiteRead.{SiteRead}
-use Rattle.line_form.specs.declared.YearRead.{YearRead}
-use Rattle.line_form.specs.declared.RateRead.{RateRead}
-use Rattle.line_form.specs.declared.CountRead.{CountRead}
-use Rattle.line_form.proofs.Capped.{early-history}
+use Rattle.line_form.specs.declared.site_fields.SiteRead.{SiteRead}
+use Rattle.line_form.specs.declared.year_fields.YearRead.{YearRead}
+use Rattle.line_form.specs.declared.year_fields.RateRead.{RateRead}
+use Rattle.line_form.specs.declared.year_fields.CountRead.{CountRead}
+use Rattle.line_form.proofs.Capped.{early-history, not-leb}
 use Rattle.line_form.proofs.Checks.{malformed-S, malformed-B, malformed-R, malformed-E, outside-S, outside-B, outside-R, outside-E, exact-S, exact-B, exact-R, exact-E}
-use Rattle.line_checks.specs.Before.{Known, isReached, beforeLike, beforeFirst, beforeRising, beforeEnd}
-use Rattle.line_checks.specs.Order.{numberBy, firstNumber, isLate}
-use Rattle.line_checks.specs.Answers.{siteShown}
+use Rattle.line_checks.specs.Before.{Known, isNotLater, beforeLike, beforeFirst, beforeRising, beforeEnd}
+use Rattle.line_checks.specs.Order.{numberBy, firstRefusal, isMisplaced}
 use Rattle.line_checks.specs.declared.order.Checks.{Checks}
-use Rattle.line_checks.proofs.Chain.{Asks, chain, clear, barred-rank, barred-first, needs-no-date, never-soon, never-falling, never-many, no-count}
+use Rattle.line_checks.proofs.Chain.{Asks, chain, clear, misplaced-rank, barred-first, needs-no-date, never-soon, never-falling, never-many, no-count}
 
--- the number of the checks is that of the refusal
-pub number-is : (t : Tag) (b : Before) (l : Line) (c : Checks) → Known t l → Asks b l c → (n : ℕ) → n ≡ firstNumber c → n ≡ numberBy (refusal b l)
-unfolding firstNumber
+-- the number from the checks is that of the refusal
+pub number-is : (t : Tag) (b : Before) (l : Line) (c : Checks) → Known t l → Asks b l c → (n : ℕ) → n ≡ firstRefusal c → n ≡ numberBy (refusal b l)
+unfolding firstRefusal
 number-is t b l c k a n e = e ∙ ap numberBy (sym (chain t b l c k a))
 
 pub not-both : (a b : Bool) → not (a && b) ≡ (not a || not b)
@@ -43,14 +42,14 @@ not-three a b c = not-both a (b && c) ∙ ap (λ (x : Bool). not a || x) (not-bo
 -- ---- B
 module _ (l : Line) (last al f latest : ℕ) (k : Known B l) where
   break-asks : Asks (beforeRising last (historyYears al f) latest) l (record {
-    misplaced = isLate last 6;
+    misplaced = isMisplaced last B;
     malformed = not (yearReadOf l .formed);
     outside = not (among (historyYears al f) (yearReadOf l .year));
-    dateless = false;
-    reached = isReached latest (yearReadOf l .year);
-    soon = false;
+    «no_date» = false;
+    «not_later» = isNotLater latest (yearReadOf l .year);
+    «too_soon» = false;
     falling = false;
-    excess = false;
+    «too_many» = false;
     miscounted = false;
   })
   unfolding holds beforeRising beforeLike isYearOutside keyOf
@@ -59,27 +58,27 @@ module _ (l : Line) (last al f latest : ℕ) (k : Known B l) where
       let b = beforeRising last h latest in
       let u = k .tag in
       record {
-        misplaced-is = rw u (barred-rank last B refl);
+        misplaced-is = rw u (misplaced-rank last B refl);
         malformed-is = malformed-B l u;
         outside-is = outside-B h l (early-history al f) u;
         date-is = λ _. needs-no-date b l B u refl;
-        reached-is = λ o _. rw u (ap (isReached latest) (sym (exact-B h l (early-history al f) u o)));
+        later-is = λ o _. rw u (ap (isNotLater latest) (sym (exact-B h l (early-history al f) u o)));
         soon-is = λ _. never-soon b l B u refl;
         falling-is = λ _. never-falling b l B u refl;
         excess-is = never-many b l B u refl;
         count-is = λ _. no-count b l B u refl;
       }
 
-  pub break-number : (r : YearRead) (y : Years) (m i e : Bool) (n : ℕ) → r ≡ yearReadOf l → m ≡ isLate last 6 → y ≡ historyYears al f → i ≡ among y (r .year) → e ≡ isReached latest (r .year)
-      → n ≡ firstNumber (record {
+  pub break-number : (r : YearRead) (y : Years) (m i e : Bool) (n : ℕ) → r ≡ yearReadOf l → m ≡ isMisplaced last B → y ≡ historyYears al f → i ≡ among y (r .year) → e ≡ isNotLater latest (r .year)
+      → n ≡ firstRefusal (record {
         misplaced = m;
         malformed = not (r .formed);
         outside = not i;
-        dateless = false;
-        reached = e;
-        soon = false;
+        «no_date» = false;
+        «not_later» = e;
+        «too_soon» = false;
         falling = false;
-        excess = false;
+        «too_many» = false;
         miscounted = false;
       })
       → n ≡ numberBy (refusal (beforeRising last (historyYears al f) latest) l)
@@ -93,14 +92,14 @@ module _ (l : Line) (last al f latest : ℕ) (k : Known B l) where
 -- ---- R
 module _ (l : Line) (last al f latest : ℕ) (k : Known R l) where
   rate-asks : Asks (beforeRising last (historyYears al f) latest) l (record {
-    misplaced = isLate last 7;
+    misplaced = isMisplaced last R;
     malformed = not (rateReadOf l .formed);
     outside = not (among (historyYears al f) (rateReadOf l .year) && isWithin 10 1000 (rateReadOf l .rate));
-    dateless = false;
-    reached = isReached latest (rateReadOf l .year);
-    soon = false;
+    «no_date» = false;
+    «not_later» = isNotLater latest (rateReadOf l .year);
+    «too_soon» = false;
     falling = false;
-    excess = false;
+    «too_many» = false;
     miscounted = false;
   })
   unfolding holds beforeRising beforeLike isRateOutside keyOf
@@ -109,28 +108,28 @@ module _ (l : Line) (last al f latest : ℕ) (k : Known R l) where
       let b = beforeRising last h latest in
       let u = k .tag in
       record {
-        misplaced-is = rw u (barred-rank last R refl);
+        misplaced-is = rw u (misplaced-rank last R refl);
         malformed-is = malformed-R l u;
         outside-is = outside-R h l (early-history al f) u ∙ sym (not-both (among h (rateReadOf l .year)) (isWithin 10 1000 (rateReadOf l .rate)));
         date-is = λ _. needs-no-date b l R u refl;
-        reached-is = λ o _. rw u (ap (isReached latest) (sym (exact-R h l (early-history al f) u o .0)));
+        later-is = λ o _. rw u (ap (isNotLater latest) (sym (exact-R h l (early-history al f) u o .0)));
         soon-is = λ _. never-soon b l R u refl;
         falling-is = λ _. never-falling b l R u refl;
         excess-is = never-many b l R u refl;
         count-is = λ _. no-count b l R u refl;
       }
 
-  pub rate-number : (r : RateRead) (y : Years) (m a w i e : Bool) (n : ℕ) → r ≡ rateReadOf l → m ≡ isLate last 7 → y ≡ historyYears al f → a ≡ among y (r .year)
-      → w ≡ isWithin 10 1000 (r .rate) → i ≡ (a && w) → e ≡ isReached latest (r .year)
-      → n ≡ firstNumber (record {
+  pub rate-number : (r : RateRead) (y : Years) (m a w i e : Bool) (n : ℕ) → r ≡ rateReadOf l → m ≡ isMisplaced last R → y ≡ historyYears al f → a ≡ among y (r .year)
+      → w ≡ isWithin 10 1000 (r .rate) → i ≡ (a && w) → e ≡ isNotLater latest (r .year)
+      → n ≡ firstRefusal (record {
         misplaced = m;
         malformed = not (r .formed);
         outside = not i;
-        dateless = false;
-        reached = e;
-        soon = false;
+        «no_date» = false;
+        «not_later» = e;
+        «too_soon» = false;
         falling = false;
-        excess = false;
+        «too_many» = false;
         miscounted = false;
       })
       → n ≡ numberBy (refusal (beforeRising last (historyYears al f) latest) l)
@@ -144,10 +143,10 @@ module _ (l : Line) (last al f latest : ℕ) (k : Known R l) where
       (ap (λ (x : RateRead). x .year) er ∙ x .0, ap (λ (x : RateRead). x .rate) er ∙ x .1)
 
 -- ---- S
-shown-view : (s : Site) → siteShown (siteView s) ≡ s
+shown-view : (s : Site) → siteRepr (siteView s) ≡ s
 shown-view s = ap (λ (m : Meter). record { al = s .al; filiere = s .filiere; meter = m; ps = s .ps }) (shown-meter (s .meter))
   where
-    shown-meter : (m : Meter) → meterShown (meterView m) ≡ m
+    shown-meter : (m : Meter) → meterRepr (meterView m) ≡ m
     shown-meter NoMeter = refl
     shown-meter Curve = refl
     shown-meter Index = refl
@@ -157,14 +156,14 @@ module _ (l : Line) (last : ℕ) (k : Known S l) where
     misplaced = not (eqb last 0);
     malformed = not (siteReadOf l .formed);
     outside = not (isWithin 2021 2026 (siteReadOf l .site .al) && (isWithin 1 11 (siteReadOf l .site .filiere) && isWithin 1 mostPower (siteReadOf l .site .ps)));
-    dateless = false;
-    reached = false;
-    soon = isTooSoon (siteReadOf l .site .al) (siteReadOf l .site .filiere);
+    «no_date» = false;
+    «not_later» = false;
+    «too_soon» = isTooSoon (siteReadOf l .site .al) (siteReadOf l .site .filiere);
     falling = false;
-    excess = false;
+    «too_many» = false;
     miscounted = false;
   })
-  unfolding holds beforeFirst beforeLike isSiteOutside isReached
+  unfolding holds beforeFirst beforeLike isSiteOutside isNotLater
   site-asks =
       let h = years 0 0 in
       let b = beforeFirst last in
@@ -175,7 +174,7 @@ module _ (l : Line) (last : ℕ) (k : Known S l) where
         malformed-is = malformed-S l u;
         outside-is = outside-S h l u ∙ sym (not-three (isWithin 2021 2026 (s .al)) (isWithin 1 11 (s .filiere)) (isWithin 1 mostPower (s .ps)));
         date-is = λ _. needs-no-date b l S u refl;
-        reached-is = λ _ _. refl;
+        later-is = λ _ _. refl;
         soon-is = λ o. rw (u, ← exact-S h l u o);
         falling-is = λ _. never-falling b l S u refl;
         excess-is = never-many b l S u refl;
@@ -184,66 +183,66 @@ module _ (l : Line) (last : ℕ) (k : Known S l) where
 
   pub site-number : (r : SiteRead) (a f p v i e : Bool) (n : ℕ) → r ≡ siteReadOf l → f ≡ isWithin 1 11 (r .site .filiere) → p ≡ isWithin 1 mostPower (r .site .ps) → v ≡ (f && p)
       → a ≡ isWithin 2021 2026 (r .site .al) → i ≡ (a && v) → e ≡ isTooSoon (r .site .al) (r .site .filiere)
-      → n ≡ firstNumber (record {
+      → n ≡ firstRefusal (record {
         misplaced = not (eqb last 0);
         malformed = not (r .formed);
         outside = not i;
-        dateless = false;
-        reached = false;
-        soon = e;
+        «no_date» = false;
+        «not_later» = false;
+        «too_soon» = e;
         falling = false;
-        excess = false;
+        «too_many» = false;
         miscounted = false;
       })
       → n ≡ numberBy (refusal (beforeFirst last) l)
   site-number r a f p v i e n er ef ep ev ea ei ee en = number-is S (beforeFirst last) l _ k site-asks n (en ∙ rw (ei, ea, ev, ef, ep, ee, er))
 
-  pub site-is : (r : SiteRead) → r ≡ siteReadOf l → refusal (beforeFirst last) l ≡ none → r .site ≡ siteShown (siteOn l)
+  pub site-is : (r : SiteRead) → r ≡ siteReadOf l → refusal (beforeFirst last) l ≡ none → r .site ≡ siteRepr (siteOn l)
   unfolding holds beforeFirst beforeLike
   site-is r er q =
-      ap (λ (x : SiteRead). x .site) er ∙ sym (shown-view (siteReadOf l .site)) ∙ ap siteShown (exact-S (years 0 0) l (k .tag) (clear (beforeFirst last) l q outside))
+      ap (λ (x : SiteRead). x .site) er ∙ sym (shown-view (siteReadOf l .site)) ∙ ap siteRepr (exact-S (years 0 0) l (k .tag) (clear (beforeFirst last) l q outside))
 
 -- ---- E
 module _ (l : Line) (last count : ℕ) (k : Known E l) where
   end-asks : Asks (beforeEnd last count) l (record {
-    misplaced = isLate last 8;
+    misplaced = isMisplaced last E;
     malformed = not (countReadOf l .formed);
-    outside = ltb 9999 (countReadOf l .count);
-    dateless = false;
-    reached = false;
-    soon = false;
+    outside = not (leb (countReadOf l .count) 9999);
+    «no_date» = false;
+    «not_later» = false;
+    «too_soon» = false;
     falling = false;
-    excess = false;
+    «too_many» = false;
     miscounted = not (eqb (countReadOf l .count) count);
   })
-  unfolding holds beforeEnd beforeLike isCountOutside isReached
+  unfolding holds beforeEnd beforeLike isCountOutside isNotLater
   end-asks =
       let h = years 0 0 in
       let b = beforeEnd last count in
       let u = k .tag in
       record {
-        misplaced-is = rw u (barred-rank last E refl);
+        misplaced-is = rw u (misplaced-rank last E refl);
         malformed-is = malformed-E l u;
-        outside-is = outside-E h l u;
+        outside-is = outside-E h l u ∙ sym (not-leb (countReadOf l .count) 9999);
         date-is = λ _. needs-no-date b l E u refl;
-        reached-is = λ _ _. refl;
+        later-is = λ _ _. refl;
         soon-is = λ _. never-soon b l E u refl;
         falling-is = λ _. never-falling b l E u refl;
         excess-is = never-many b l E u refl;
         count-is = λ o. rw (u, exact-E h l u o);
       }
 
-  pub end-number : (r : CountRead) (m : Bool) (n : ℕ) → r ≡ countReadOf l → m ≡ isLate last 8
-      → n ≡ firstNumber (record {
+  pub end-number : (r : CountRead) (m i : Bool) (n : ℕ) → r ≡ countReadOf l → m ≡ isMisplaced last E → i ≡ leb (r .count) 9999
+      → n ≡ firstRefusal (record {
         misplaced = m;
         malformed = not (r .formed);
-        outside = ltb 9999 (r .count);
-        dateless = false;
-        reached = false;
-        soon = false;
+        outside = not i;
+        «no_date» = false;
+        «not_later» = false;
+        «too_soon» = false;
         falling = false;
-        excess = false;
+        «too_many» = false;
         miscounted = not (eqb (r .count) count);
       })
       → n ≡ numberBy (refusal (beforeEnd last count) l)
-  end-number r m n er em en = number-is E (beforeEnd last count) l _ k end-asks n (en ∙ rw (em, er))
+  end-number r m i n er em ei en = number-is E (beforeEnd last count) l _ k end-asks n (en ∙ rw (em, ei, er))

@@ -1,4 +1,4 @@
--- The first check that holds is the refusal, where each check is its condition or an earlier one holds.
+-- The first check that holds gives the refusal, where each check equals its condition unless an earlier one holds.
 use mathlib.Core.Path.{_≡_, refl, sym, _∙_}
 use mathlib.Core.Bool.{Bool, true, false, not, _&&_, _||_, cond}
 use mathlib.Core.List.{List, [], _∷_}
@@ -10,37 +10,37 @@ use borrow.Author.Tests.{eq-eqb}
 use Rattle.lists.specs.Lists.{firstOf}
 use Rattle.lists.proofs.Tests.{same, is-false}
 use Rattle.meaning.specs.Filing.{Meter, noMeter}
-use Rattle.meaning.specs.Line.{Line, Tag, S, C, X, E, rank, is, tagOf, hasDateOn}
+use Rattle.meaning.specs.Line.{Line, Tag, S, C, X, E, is, tagOf, hasDateOn}
 use Rattle.meaning.specs.Refusals.{Before, Reason, illegible, unknown, misplaced, malformed, outside, noDate, notLater, tooSoon, falling, tooMany, miscounted, numberOf, hasNoDate, holds, order, refusal}
 use Rattle.meaning.specs.File.{isIndexMeter}
-use Rattle.meaning.specs.Record.{barredBy}
+use Rattle.meaning.specs.Record.{misplacedBy}
 use Rattle.meaning.proofs.Passed.{passed}
 use Rattle.line_checks.specs.Before.{Known}
-use Rattle.line_checks.specs.Order.{numberBy, asked, firstNumber, isLate, whereTaken}
+use Rattle.line_checks.specs.Order.{numberBy, asked, firstRefusal, isMisplaced, whereTaken}
 use Rattle.line_checks.specs.declared.order.Checks.{Checks}
 
--- ---- the checks' own number
+-- ---- the number from the checks
 by-cond : (b : Bool) (y : Reason) (o : Option Reason) → numberBy (cond b (some y) o) ≡ cond b (numberOf y) (numberBy o)
 by-cond true y o = refl
 by-cond false y o = refl
 
-pub first-is : (c : Checks) → firstNumber c ≡ cond (c .misplaced) 4 (cond (c .malformed) 5 (cond (c .outside) 6 (cond (c .dateless) 7 (cond (c .reached) 8
-    (cond (c .soon) 9 (cond (c .falling) 10 (cond (c .excess) 11 (cond (c .miscounted) 12 0))))))))
-unfolding firstNumber firstOf order asked numberOf
+pub first-is : (c : Checks) → firstRefusal c ≡ cond (c .misplaced) 4 (cond (c .malformed) 5 (cond (c .outside) 6 (cond (c .«no_date») 7 (cond (c .«not_later») 8
+    (cond (c .«too_soon») 9 (cond (c .falling) 10 (cond (c .«too_many») 11 (cond (c .miscounted) 12 0))))))))
+unfolding firstRefusal firstOf order asked numberOf
 first-is c =
     rw (
       by-cond (c .misplaced) misplaced,
       by-cond (c .malformed) malformed,
       by-cond (c .outside) outside,
-      by-cond (c .dateless) noDate,
-      by-cond (c .reached) notLater,
-      by-cond (c .soon) tooSoon,
+      by-cond (c .«no_date») noDate,
+      by-cond (c .«not_later») notLater,
+      by-cond (c .«too_soon») tooSoon,
       by-cond (c .falling) falling,
-      by-cond (c .excess) tooMany,
+      by-cond (c .«too_many») tooMany,
       by-cond (c .miscounted) miscounted,
     )
 
--- ---- two tests that agree, where no earlier one holds, find the same
+-- ---- two tests that agree wherever no earlier one holds find the same
 pub agree : {A : Type 0} (f g : A → Bool) (x : A) (xs : List A) → f x ≡ g x → (f x ≡ false → firstOf f xs ≡ firstOf g xs) → firstOf f (x ∷ xs) ≡ firstOf g (x ∷ xs)
 unfolding firstOf
 agree f g x xs e r = rw (← e) (go (f x) refl)
@@ -49,16 +49,16 @@ agree f g x xs e r = rw (← e) (go (f x) refl)
     go true q = refl
     go false q = r q
 
--- each check is the condition of its number, where the line's numbers are its own: outside their ranges, or with no date, they need not be
+-- each check is the condition of its number; outside their ranges, or without a date, the numbers in the code need not be the line's
 pub record Asks (b : Before) (l : Line) (c : Checks) : Type 0 where
   pub misplaced-is : holds misplaced b l ≡ c .misplaced
   pub malformed-is : holds malformed b l ≡ c .malformed
   pub outside-is : holds outside b l ≡ c .outside
-  pub date-is : holds outside b l ≡ false → holds noDate b l ≡ c .dateless
-  pub reached-is : holds outside b l ≡ false → holds noDate b l ≡ false → holds notLater b l ≡ c .reached
-  pub soon-is : holds outside b l ≡ false → holds tooSoon b l ≡ c .soon
+  pub date-is : holds outside b l ≡ false → holds noDate b l ≡ c .«no_date»
+  pub later-is : holds outside b l ≡ false → holds noDate b l ≡ false → holds notLater b l ≡ c .«not_later»
+  pub soon-is : holds outside b l ≡ false → holds tooSoon b l ≡ c .«too_soon»
   pub falling-is : holds outside b l ≡ false → holds falling b l ≡ c .falling
-  pub excess-is : holds tooMany b l ≡ c .excess
+  pub excess-is : holds tooMany b l ≡ c .«too_many»
   pub count-is : holds outside b l ≡ false → holds miscounted b l ≡ c .miscounted
 
 pub chain : (t : Tag) (b : Before) (l : Line) (c : Checks) → Known t l → Asks b l c → refusal b l ≡ firstOf (asked c) order
@@ -70,7 +70,7 @@ chain t b l c k a =
     at malformed _ (a .malformed-is) (λ _.
     at outside _ (a .outside-is) (λ o.
     at noDate _ (a .date-is o) (λ d.
-    at notLater _ (a .reached-is o d) (λ _.
+    at notLater _ (a .later-is o d) (λ _.
     at tooSoon _ (a .soon-is o) (λ _.
     at falling _ (a .falling-is o) (λ _.
     at tooMany _ (a .excess-is) (λ _.
@@ -83,7 +83,7 @@ chain t b l c k a =
     end : firstOf (λ x. holds x b l) [] ≡ firstOf (asked c) []
     end = unfold firstOf in refl
 
--- ---- what a number tells of the refusal
+-- ---- what a number says about the refusal
 pub number-above : (y : Reason) → numberOf y ≡ 0 → ⊥
 unfolding numberOf
 number-above illegible e = omega arith
@@ -120,17 +120,17 @@ or-and-false true b = refl
 or-and-false false true = refl
 or-and-false false false = refl
 
--- C is barred in an I file besides
-pub barred-late : (last : ℕ) (m : Meter) (t : Tag) → is S t ≡ false → barredBy last m t ≡ (isLate last (rank t) || (is C t && isIndexMeter m))
-unfolding barredBy isLate
-barred-late zero m t s = rw s
-barred-late (suc n) m t s = rw (s, eqb·suc-zero n, eqb-sym 8 (suc n))
+-- C is also misplaced in an I file
+pub misplaced-other : (last : ℕ) (m : Meter) (t : Tag) → is S t ≡ false → misplacedBy last m t ≡ (isMisplaced last t || (is C t && isIndexMeter m))
+unfolding misplacedBy isMisplaced
+misplaced-other zero m t s = rw s
+misplaced-other (suc n) m t s = rw (s, eqb·suc-zero n, eqb-sym 8 (suc n))
 
-pub barred-rank : (last : ℕ) (t : Tag) → is S t ≡ false → barredBy last noMeter t ≡ isLate last (rank t)
-barred-rank last t s = barred-late last noMeter t s ∙ or-and-false (isLate last (rank t)) (is C t)
+pub misplaced-rank : (last : ℕ) (t : Tag) → is S t ≡ false → misplacedBy last noMeter t ≡ isMisplaced last t
+misplaced-rank last t s = misplaced-other last noMeter t s ∙ or-and-false (isMisplaced last t) (is C t)
 
-pub barred-first : (last : ℕ) (m : Meter) → barredBy last m S ≡ not (eqb last 0)
-unfolding barredBy
+pub barred-first : (last : ℕ) (m : Meter) → misplacedBy last m S ≡ not (eqb last 0)
+unfolding misplacedBy
 barred-first zero m = refl
 barred-first (suc n) m = rw (eqb·suc-zero n, or-true (ltb 1 (suc n)))
   where
@@ -138,7 +138,7 @@ barred-first (suc n) m = rw (eqb·suc-zero n, or-true (ltb 1 (suc n)))
     or-true true = refl
     or-true false = refl
 
--- ---- conditions that no line of a tag meets
+-- ---- conditions that hold for no line of a tag
 module _ (b : Before) (l : Line) (t : Tag) (u : tagOf l ≡ t) where
   pub needs-no-date : hasDateOn t ≡ false → holds noDate b l ≡ false
   unfolding holds hasNoDate

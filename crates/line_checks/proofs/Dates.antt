@@ -1,4 +1,4 @@
--- The date of a line that has one: its place, its position and its key, by the numbers that are read off the line.
+-- The date of a line that has one: its place, its position and its key, from the numbers read from the line.
 use mathlib.Core.Path.{_≡_, refl, sym, subst}
 use mathlib.Core.Bool.{Bool, true, false, not, _&&_, _||_}
 use Prim.Native.Nat.{ℕ, _≤_, _<_}

@@ -1,4 +1,3 @@
-pub mod Judged
 pub mod ByTag
 pub mod Chain
 pub mod Records

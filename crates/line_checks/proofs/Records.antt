@@ -1,4 +1,4 @@
--- A record judges a line of each tag by the numbers that the tag needs of it: a line's conditions look at no others.
+-- A line of each tag is checked against the numbers of the record that its tag needs: its conditions use no others.
 use mathlib.Core.Path.{_≡_, refl, sym, _∙_}
 use mathlib.Core.Bool.{true, false, not, _&&_}
 use mathlib.Core.List.{List, [], _∷_}
@@ -11,16 +11,16 @@ use Rattle.meaning.specs.Filing.{Meter, noMeter}
 use Rattle.meaning.specs.Line.{Line, Tag, S, C, X, D, P, B, R, E, is, tagOf, keyOf, numberAt}
 use Rattle.meaning.specs.Refusals.{Before, Reason, illegible, unknown, misplaced, malformed, outside, noDate, notLater, tooSoon, falling, tooMany, miscounted, holds, order, refusal, isOutside, mostReadings}
 use Rattle.meaning.specs.File.{isIndexMeter}
-use Rattle.meaning.specs.Record.{Rec, lastOf, barredBy, reachedBy, beforeOf, isTaken, siteOfRec, historyOfSite, historyOfRec}
+use Rattle.meaning.specs.Record.{Rec, lastOf, misplacedBy, notLaterBy, beforeOf, isTaken, siteOfRec, historyOfSite, historyOfRec}
 use Rattle.line_form.proofs.Checks.{outside-S, outside-E}
-use Rattle.line_checks.specs.Before.{isReached, beforeLike, beforeFirst, beforePoints, beforeRising, beforeReading, beforeEnd}
-use Rattle.line_checks.proofs.Chain.{agree, barred-late, barred-first}
+use Rattle.line_checks.specs.Before.{isNotLater, beforeLike, beforeFirst, beforePoints, beforeRising, beforeReading, beforeEnd}
+use Rattle.line_checks.proofs.Chain.{agree, misplaced-other, barred-first}
 
--- ---- two ways to judge a line that agree in what its conditions look at
+-- ---- two ways to check a line that agree in what its conditions use
 module _ (b c : Before) (l : Line) where
-  pub same-refusal : b .barred (tagOf l) ≡ c .barred (tagOf l)
-      → (b .barred (tagOf l) ≡ false → isOutside (b .history) l ≡ isOutside (c .history) l)
-      → b .reached (tagOf l) (keyOf (tagOf l) l) ≡ c .reached (tagOf l) (keyOf (tagOf l) l)
+  pub same-refusal : b .misplaced (tagOf l) ≡ c .misplaced (tagOf l)
+      → (b .misplaced (tagOf l) ≡ false → isOutside (b .history) l ≡ isOutside (c .history) l)
+      → b .notLater (tagOf l) (keyOf (tagOf l) l) ≡ c .notLater (tagOf l) (keyOf (tagOf l) l)
       → (is X (tagOf l) && ltb (numberAt l 4) (b .lastIndex)) ≡ (is X (tagOf l) && ltb (numberAt l 4) (c .lastIndex))
       → (is X (tagOf l) && leb mostReadings (b .readings)) ≡ (is X (tagOf l) && leb mostReadings (c .readings))
       → (is E (tagOf l) && not (eqb (numberAt l 1) (b .lines))) ≡ (is E (tagOf l) && not (eqb (numberAt l 1) (c .lines)))
@@ -46,9 +46,9 @@ module _ (b c : Before) (l : Line) where
       end : firstOf (λ x. holds x b l) [] ≡ firstOf (λ x. holds x c l) []
       end = unfold firstOf in refl
 
--- ---- before S is taken every other line is barred, so the history is that of S wherever it is looked at
-taken : (n : ℕ) (m : Meter) (t : Tag) → is S t ≡ false → barredBy n m t ≡ false → not (eqb n 0) ≡ true
-unfolding barredBy
+-- ---- before S is taken every other line is misplaced, so the history is that of S wherever it is used
+taken : (n : ℕ) (m : Meter) (t : Tag) → is S t ≡ false → misplacedBy n m t ≡ false → not (eqb n 0) ≡ true
+unfolding misplacedBy
 taken zero m t s e = sym (rw s at e)
 taken (suc n) m t s e = rw (eqb·suc-zero n)
 
@@ -56,7 +56,7 @@ history-taken : (s : Rec) → isTaken s ≡ true → historyOfRec s ≡ historyY
 unfolding historyOfRec historyOfSite siteOfRec
 history-taken s e = rw e
 
--- ---- a line of a tag other than S, by a meter m and numbers i, n, c that are the record's where the tag looks at them
+-- ---- a line of a tag other than S; a meter m and numbers i, n, c are the record's where the tag uses them
 module _ (s : Rec) (l : Line) (t : Tag) (u : tagOf l ≡ t) (no : is S t ≡ false) (m : Meter) (h : Years) (i n c : ℕ) where
   before-same : (is C t && isIndexMeter (s .site .meter)) ≡ (is C t && isIndexMeter m)
       → (historyOfRec s ≡ historyYears (s .site .al) (s .site .filiere) → isOutside (historyOfRec s) l ≡ isOutside h l)
@@ -64,10 +64,10 @@ module _ (s : Rec) (l : Line) (t : Tag) (u : tagOf l ≡ t) (no : is S t ≡ fal
       → (is X t && leb mostReadings (s .readings)) ≡ (is X t && leb mostReadings n)
       → (is E t && not (eqb (numberAt l 1) (s .count))) ≡ (is E t && not (eqb (numberAt l 1) c))
       → refusal (beforeOf s) l ≡ refusal (beforeLike (s .last) m h (lastOf (s .lasts) t) i n c) l
-  unfolding beforeOf beforeLike reachedBy isReached isTaken
+  unfolding beforeOf beforeLike notLaterBy isNotLater isTaken
   before-same p o x y z =
       same-refusal (beforeOf s) (beforeLike (s .last) m h (lastOf (s .lasts) t) i n c) l
-      (rw u (barred-late (s .last) (s .site .meter) t no ∙ rw p (sym (barred-late (s .last) m t no))))
+      (rw u (misplaced-other (s .last) (s .site .meter) t no ∙ rw p (sym (misplaced-other (s .last) m t no))))
       (λ q. o (history-taken s (taken (s .last) (s .site .meter) t no (rw u at q))))
       (rw u refl)
       (rw u x)
@@ -77,7 +77,7 @@ module _ (s : Rec) (l : Line) (t : Tag) (u : tagOf l ≡ t) (no : is S t ≡ fal
 -- ---- by tag
 module _ (s : Rec) (l : Line) where
   pub before-S : tagOf l ≡ S → refusal (beforeOf s) l ≡ refusal (beforeFirst (s .last)) l
-  unfolding beforeOf beforeFirst beforeLike reachedBy isReached
+  unfolding beforeOf beforeFirst beforeLike notLaterBy isNotLater
   before-S u =
       same-refusal (beforeOf s) (beforeFirst (s .last)) l
       (rw u (barred-first (s .last) (s .site .meter) ∙ sym (barred-first (s .last) noMeter)))

@@ -1,4 +1,3 @@
-pub mod Answers
 pub mod Before
 pub mod Order
 pub mod Places

@@ -1,4 +1,4 @@
--- The place and the key of numbers that may be no date: 0 where there is none.
+-- The place and the key of numbers that may not be a date: 0 where they are not.
 use mathlib.Core.Bool.{cond}
 use Prim.Native.Nat.{ℕ, _+_, _*_}
 use lib.Dec.{ltb}

@@ -1,6 +1,6 @@
-// 6 on the 20 values: each is within its tag's range.
+// 6 on the 20 values: whether each is within its tag's range.
 use line_form::DASH;
-use line_form::both;
+use text::and;
 ghost use mathlib.Core.Path.{_≡_};
 ghost use Rattle.lists.specs.Lists.{any};
 ghost use Rattle.line_form.specs.Codes.{isPointOutside, isProfileOutside};
@@ -9,13 +9,13 @@ ghost use Rattle.line_form.specs.Rows.{isAbove};
 fn is_above(v: u64, most: u64, dashes: bool) -> bool
     ensures { λ r. ⌜ r ≡ isAbove dashes most v ⌝ }
 {
-    if both(dashes, v == DASH) {
+    if and(dashes, v == DASH) {
         return false;
     }
     most < v
 }
 
-// Some code is above the most, a dash aside where one may stand.
+// Whether some code is above `most`; a dash is not, where one is allowed.
 fn some_above(codes: &[u64], most: u64, dashes: bool) -> bool
     ensures { λ r. ⌜ r ≡ any (isAbove dashes most) (now (codes .entry)) ⌝ }
 {

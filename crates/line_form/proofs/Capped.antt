@@ -1,4 +1,4 @@
--- Numbers up to the most: a test that no number from the most on passes sees no difference, and a number that passes it is the number itself.
+-- Numbers capped at 10^18: capping changes no test that has one result from 10^18 on, and a number within a range below it is not capped.
 use mathlib.Core.Path.{_≡_, refl, sym, _∙_}
 use mathlib.Core.Bool.{Bool, true, false, not, _&&_, cond}
 use Prim.Native.Nat.{ℕ, zero, suc, _+_, _-_, _≤_, _<_, min}
@@ -14,7 +14,7 @@ use Rattle.text.specs.Numbers.{most}
 use Rattle.text.proofs.NumberLaws.{ltb-capped}
 use Rattle.meaning.specs.Record.{isWithin}
 
--- ---- the law
+-- ---- capping under a test
 module _ {A : Type 0} (p : ℕ → A) (d : A) (n : ℕ) (above : (v : ℕ) → n ≤ v → p v ≡ d) (v : ℕ) where
   pub capped : p (min v n) ≡ p v
   capped = go (leb n v) refl
@@ -59,7 +59,7 @@ among-capped s v h = capped (among s) false most (among-above s most h) v
 pub among-exact : (s : Years) (v : ℕ) → s .first + s .count ≤ most → T (among s (min v most)) → min v most ≡ v
 among-exact s v h t = exact (among s) most (among-above s most h) v t
 
--- a number from 0 on has one bound
+-- a number with 0 as its lower bound
 pub not-leb : (v b : ℕ) → not (leb v b) ≡ ltb b v
 not-leb v b = go (leb v b) refl
   where
@@ -73,7 +73,7 @@ above-capped b v h = rw (leb·zero v) (not-leb v b ∙ sym (ltb-capped most v b 
 pub above-exact : (b v : ℕ) → b < most → ltb b (min v most) ≡ false → min v most ≡ v
 above-exact b v h e = let k : min v most ≤ b = ltb-false b (min v most) e in omega arith
 
--- ---- the years of a file stand far below the most
+-- ---- the years of a file are far below the cap
 abbrev pub Early : Years → Type 0
 Early h = h .first + h .count + 2 ≤ most
 

@@ -1,4 +1,4 @@
--- 5, 6 and 7 of a line of a known tag, by what is read off it.
+-- 5, 6 and 7 of a line of a known tag, from what is read from it.
 use mathlib.Core.Path.{_≡_, refl, ap, subst, sym, _∙_}
 use mathlib.Core.Bool.{Bool, true, false, not, _&&_, _||_}
 use Prim.Native.Nat.{ℕ, _+_, _≤_, _<_, min}
@@ -15,7 +15,7 @@ use Rattle.meaning.specs.Refusals.{isMalformed, isOutside, hasNoDate}
 use Rattle.meaning.specs.Record.{isWithin}
 use Rattle.line_form.specs.Views.{siteView}
 use Rattle.line_form.specs.Reads.{cappedAt, siteReadOf, readingReadOf, dailyReadOf, yearReadOf, rateReadOf, countReadOf}
-use Rattle.line_form.specs.Ranges.{isSiteOutside, isReadingOutside, isDailyOutside, isYearOutside, isRateOutside, isCountOutside, lacksDate}
+use Rattle.line_form.specs.Ranges.{isSiteOutside, isReadingOutside, isDailyOutside, isYearOutside, isRateOutside, isCountOutside, noDateFor}
 use Rattle.line_form.proofs.Forms.{malformed}
 use Rattle.line_form.proofs.LetterLaws.{shown}
 use Rattle.line_form.proofs.Capped.{Early, early-axis, within-capped, within-exact, among-capped, among-exact, above-capped, above-exact, date-capped, date-exact, winter-capped}
@@ -50,7 +50,7 @@ malformed-E l e = malformed E l e
 pub either : {a b c d : Bool} → a ≡ c → b ≡ d → (a || b) ≡ (c || d)
 either p q = rw (p, q)
 
--- a number outside its range, a year off its span
+-- a number outside its range, a year outside its span
 number-off : (l : Line) (n a b : ℕ) → b < most → not (leb a (numberAt l n) && leb (numberAt l n) b) ≡ not (isWithin a b (cappedAt l n))
 unfolding cappedAt isWithin
 number-off l n a b h = ap not (sym (within-capped a b (numberAt l n) h))
@@ -88,7 +88,7 @@ pub outside-E : (h : Years) (l : Line) → tagOf l ≡ E → isOutside h l ≡ i
 unfolding isOutside formsOf someField inRange isCountOutside countReadOf numberAt fieldAt restAt
 outside-E h l e = rw e (or-false _ ∙ above-off l 1 9999 (omega arith))
 
--- ---- what is not outside is the number itself
+-- ---- a number that is not outside its range is not capped
 holds : (b : Bool) → not b ≡ false → T b
 holds true e = tt
 holds false e = subst T e tt
@@ -141,14 +141,14 @@ pub exact-E : (h : Years) (l : Line) → tagOf l ≡ E → isOutside h l ≡ fal
 unfolding countReadOf isCountOutside
 exact-E h l e o = above-in l 1 9999 (omega arith) (sym (outside-E h l e) ∙ o)
 
--- ---- 7, the year y being the line's own
-pub no-date : (t : Tag) (l : Line) (y : ℕ) → tagOf l ≡ t → T (hasDateOn t) → y ≡ yearOn l → hasNoDate l ≡ lacksDate (isWinterTag t) y (cappedAt l 2) (cappedAt l 3)
-unfolding hasNoDate lacksDate cappedAt
+-- ---- 7, y being the year of the line
+pub no-date : (t : Tag) (l : Line) (y : ℕ) → tagOf l ≡ t → T (hasDateOn t) → y ≡ yearOn l → hasNoDate l ≡ noDateFor (isWinterTag t) y (cappedAt l 2) (cappedAt l 3)
+unfolding hasNoDate noDateFor cappedAt
 no-date t l y e d p = rw (e, is-true (hasDateOn t) d, p, date-capped (yearOn l) (monthOn l) (dayOn l), winter-capped (monthOn l))
 
--- a date that is there has its own month and day
+-- month and day of a date that exists are not capped
 pub exact-date : (t : Tag) (l : Line) → tagOf l ≡ t → T (hasDateOn t) → hasNoDate l ≡ false → (cappedAt l 2 ≡ monthOn l) × (cappedAt l 3 ≡ dayOn l)
-unfolding lacksDate cappedAt
+unfolding noDateFor cappedAt
 exact-date t l e d o =
     let p = or-parts _ _ (sym (no-date t l (yearOn l) e d refl) ∙ o) in
     date-exact (yearOn l) (monthOn l) (dayOn l) (holds (isDate (yearOn l) (min (monthOn l) most) (min (dayOn l) most)) (p .0))

@@ -11,7 +11,7 @@ use Rattle.meaning.specs.Line.{Line, Tag, S, X, D, B, R, E, Form, formsOf, inFo
 use Rattle.meaning.specs.Refusals.{isMalformed}
 use Rattle.line_form.specs.Reads.{inForms, isFormed, isDateFormed}
 
--- ---- one field more, in front and at the end
+-- ---- one more field, at the front and at the end
 pub in-forms-cons : (m : Form) (ms : List Form) (t : List ℕ) → inForms (m ∷ ms) t ≡ (inForm m (upTo t) && inForms ms (past t))
 unfolding inForms someField
 in-forms-cons m ms t = go (inForm m (upTo t)) (someField (λ k f. not (inForm k f)) ms (past t))
@@ -32,7 +32,7 @@ in-forms-snoc (suc k) m t =
     ∙ sym (and-assoc (inForm m (upTo t)) (inForms (replicate k m) (past t)) (inForm m (fieldAt (past t) k)))
     ∙ ap (λ (b : Bool). b && inForm m (fieldAt (past t) k)) (sym (in-forms-cons m (replicate k m) t))
 
--- ---- 5, by whether each field is in the form that its tag gives it
+-- ---- 5, by whether each field is in its form for the tag
 pub malformed : (t : Tag) (l : Line) → tagOf l ≡ t → isMalformed l ≡ not (isFormed t l)
 unfolding isMalformed isFormed inForms
 malformed t l e = rw e (sym (twice (someField (λ m f. not (inForm m f)) (formsOf t) (past l))))

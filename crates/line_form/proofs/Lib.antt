@@ -4,7 +4,7 @@ pub mod Readers
 pub mod Capped
 pub mod Checks
 pub mod Shaped
-pub mod Told
+pub mod ReadFields
 pub mod Read
 pub mod TagLaws
 pub mod Rows

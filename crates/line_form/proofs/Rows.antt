@@ -1,4 +1,4 @@
--- The 20 values of a line, by what the code has in hand.
+-- The 20 values of a line, from the values in the code.
 use mathlib.Core.Path.{_≡_, refl, ap, sym, _∙_}
 use mathlib.Core.Bool.{Bool, true, false, _&&_, _||_, cond}
 use mathlib.Core.List.{List, [], _∷_, _++_}
@@ -13,8 +13,9 @@ use Rattle.lists.proofs.Tables.{tab-snoc}
 use Rattle.text.specs.Fields.{upTo, past, restAt, fieldAt}
 use Rattle.text.specs.Numbers.{isDash}
 use Rattle.meaning.specs.Line.{Line, formsOf, inForm}
-use Rattle.line_form.specs.Shapes.{shapeOf}
-use Rattle.line_form.specs.Fields.{Tells}
+use Rattle.line_form.specs.Shapes.{shapeOf, isNumeral, byteOf}
+use Rattle.line_form.specs.Fields.{ReadFrom}
+use Rattle.line_form.specs.declared.Field.{Field}
 use Rattle.line_form.specs.declared.Fields.{Fields}
 use Rattle.line_form.proofs.Shaped.{shape-number, shape-dash}
 use Rattle.line_form.proofs.Read.{shape-at, value-at}
@@ -22,12 +23,12 @@ use Rattle.line_form.specs.Reads.{inForms, isFormed, isDateFormed}
 use Rattle.line_form.specs.Codes.{dash}
 use Rattle.line_form.specs.ValueReads.{dateReadOf}
 use Rattle.line_form.specs.Rows.{rowForm, rowTag, rowAt, codeOf, isValue, rowOf}
-use Rattle.line_form.specs.declared.Row.{Row}
-use Rattle.line_form.specs.declared.DateRead.{DateRead}
+use Rattle.line_form.specs.declared.values.Row.{Row}
+use Rattle.line_form.specs.declared.values.DateRead.{DateRead}
 use Rattle.line_form.proofs.Forms.{dated, in-forms-snoc}
 use Rattle.line_form.proofs.Readers.{capped-at}
 
--- ---- fields past the n-th
+-- ---- fields after the n-th
 rest-add : (m n : ℕ) (l : List ℕ) → restAt (restAt l m) n ≡ restAt l (m + n)
 unfolding restAt
 rest-add zero n l = let e : n ≡ 0 + n = omega arith in ap (λ (k : ℕ). restAt l k) e
@@ -37,26 +38,26 @@ field-add : (m n : ℕ) (l : List ℕ) → fieldAt (restAt l m) n ≡ fieldAt l 
 unfolding fieldAt
 field-add m n l = ap upTo (rest-add m n l)
 
--- ---- a field: its number, unless it is a dash where one may stand
-module _ (dashes : Bool) (told : Fields) (l : Line) (w : Tells told l) (k i : ℕ) (h : k < 20) (e : i ≡ k + 4) (m : Bool) (p : m ≡ (dashes && eqb (getD (told .shapes) i 0) 45)) where
+-- ---- a field: its number, unless it is a dash where one is allowed
+module _ (dashes : Bool) (told : Fields) (l : Line) (w : ReadFrom told l) (k i : ℕ) (d : Field) (h : k < 20) (e : i ≡ k + 4) (c : ℕ) (q : c ≡ byteOf (getD (told .fields) i d .shape)) (m : Bool) (p : m ≡ (dashes && eqb c 45)) where
   place : i ≡ 4 + k
   place = omega arith
 
-  shape-here : getD (told .shapes) i 0 ≡ shapeOf (fieldAt l (4 + k))
-  shape-here = shape-at l told w i (omega arith) ∙ ap (λ (n : ℕ). shapeOf (fieldAt l n)) place
+  shape-here : getD (told .fields) i d .shape ≡ shapeOf (fieldAt l (4 + k))
+  shape-here = shape-at l told w i d (omega arith) ∙ ap (λ (n : ℕ). shapeOf (fieldAt l n)) place
 
   missing-here : m ≡ (dashes && isDash (fieldAt l (4 + k)))
-  missing-here = p ∙ rw (shape-here, shape-dash (fieldAt l (4 + k)))
+  missing-here = p ∙ rw (q, shape-here, shape-dash (fieldAt l (4 + k)))
 
-  pub code-here : (v : ℕ) → v ≡ cond m dash (getD (told .values) i 0) → v ≡ codeOf dashes (fieldAt l (4 + k))
+  pub code-here : (v : ℕ) → v ≡ cond m dash (getD (told .fields) i d .value) → v ≡ codeOf dashes (fieldAt l (4 + k))
   unfolding codeOf
-  code-here v j = j ∙ rw (missing-here, value-at l told w i (omega arith), place)
+  code-here v j = j ∙ rw (missing-here, value-at l told w i d (omega arith), place)
 
-  pub value-here : (n b : Bool) → n ≡ eqb (getD (told .shapes) i 0) 48 → b ≡ (m || n) → b ≡ isValue dashes (fieldAt l (4 + k))
+  pub value-here : (n b : Bool) → n ≡ isNumeral (getD (told .fields) i d .shape) → b ≡ (m || n) → b ≡ isValue dashes (fieldAt l (4 + k))
   unfolding isValue
-  value-here n b q j = j ∙ rw (missing-here, q, shape-here, shape-number (fieldAt l (4 + k)))
+  value-here n b g j = j ∙ rw (missing-here, g, shape-here, shape-number (fieldAt l (4 + k)))
 
--- ---- one place more
+-- ---- one more place
 -- the first n codes of a line
 abbrev pub codesOf : Bool → Line → ℕ → List ℕ
 codesOf dashes l n = tab n 0 (λ h. codeOf dashes (fieldAt l (4 + h)))
@@ -90,10 +91,10 @@ row-read dashes b vs k l h lo hi e p =
     rw (sym (take-all 20 vs (omega arith)) ∙ (rw z at e), rw z at p)
 
 -- ---- the line
-pub dated-read : (dashes : Bool) (told : Fields) (l : Line) → Tells told l → (r : Row) (b d : Bool) → r ≡ rowOf dashes l → d ≡ isDateFormed l → b ≡ (d && r .formed)
-    → _≡_ {A = DateRead} (record { formed = b; year = getD (told .values) 1 0; month = getD (told .values) 2 0; day = getD (told .values) 3 0 }) (dateReadOf (rowTag dashes) l)
+pub dated-read : (dashes : Bool) (told : Fields) (l : Line) → ReadFrom told l → (z : Field) (r : Row) (b d : Bool) → r ≡ rowOf dashes l → d ≡ isDateFormed l → b ≡ (d && r .formed)
+    → _≡_ {A = DateRead} (record { formed = b; year = getD (told .fields) 1 z .value; month = getD (told .fields) 2 z .value; day = getD (told .fields) 3 z .value }) (dateReadOf (rowTag dashes) l)
 unfolding dateReadOf rowOf
-dated-read dashes told l w r b d e p j = rw (j, e, p, capped-at told l w 1 (omega arith), capped-at told l w 2 (omega arith), capped-at told l w 3 (omega arith), formed-row dashes l)
+dated-read dashes told l w z r b d e p j = rw (j, e, p, capped-at told l w z 1 (omega arith), capped-at told l w z 2 (omega arith), capped-at told l w z 3 (omega arith), formed-row dashes l)
 
 pub codes-read : (dashes : Bool) (l : Line) (r : Row) → r ≡ rowOf dashes l → r .codes ≡ rowAt dashes l 4
 unfolding rowOf

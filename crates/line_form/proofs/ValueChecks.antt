@@ -1,4 +1,4 @@
--- 5 and 6 of a C or P line by what is read off it, and what the blocks then hold.
+-- 5 and 6 of a C or P line from what is read from it, and what the blocks hold after it.
 use mathlib.Core.Path.{_≡_, refl, ap, sym, _∙_}
 use mathlib.Core.Bool.{Bool, true, false, not, _&&_, _||_, cond}
 use mathlib.Core.List.{List}
@@ -21,7 +21,7 @@ use Rattle.meaning.specs.Line.{Line, Tag, C, P, tagOf, Form, number, numberOrDa
 use Rattle.meaning.specs.Refusals.{isMalformed, isOutside}
 use Rattle.meaning.specs.Blocks.{missingPoint}
 use Rattle.line_form.specs.Reads.{cappedAt}
-use Rattle.line_form.proofs.Told.{rest-suc}
+use Rattle.line_form.proofs.ReadFields.{rest-suc}
 use Rattle.line_form.proofs.Forms.{malformed}
 use Rattle.line_form.proofs.Capped.{Early, not-leb, above-capped}
 use Rattle.line_form.proofs.Checks.{either, year-off, year-exact}
@@ -39,7 +39,7 @@ field-here : (l : List ℕ) (n : ℕ) → upTo (restAt l n) ≡ fieldAt l n
 unfolding fieldAt
 field-here l n = refl
 
--- some field of a row fails, by a test of what is read off each
+-- some field of a row fails a test, by a test of the code of each
 row-fails : (fails : Form → List ℕ → Bool) (m : Form) (p : ℕ → Bool) (code : List ℕ → ℕ) → ((f : List ℕ) → fails m f ≡ p (code f)) → (n i : ℕ) (l : List ℕ)
     → someField fails (replicate n m) (restAt l (4 + i)) ≡ any p (tab n i (λ h. code (fieldAt l (4 + h))))
 unfolding someField any tab
@@ -53,7 +53,7 @@ row-fails fails m p code e (suc n) i l = go (row-fails fails m p code e n (suc i
         → (fails m (upTo (restAt l (4 + i))) || someField fails (replicate n m) (past (restAt l (4 + i)))) ≡ (p (code (fieldAt l (4 + i))) || any p (tab n (suc i) (λ h. code (fieldAt l (4 + h)))))
     go r = rw (next, r, e (upTo (restAt l (4 + i))), field-here l (4 + i))
 
--- no number that is handed out is the dash
+-- no capped number is the dash
 no-dash : (v : ℕ) → eqb (min v most) dash ≡ false
 no-dash v = ne-eqb (min v most) dash (λ (e : min v most ≡ dash). omega arith)
 
@@ -82,7 +82,7 @@ outside-P h l y e =
     rw e (either (year-off h l 1 (omega arith))
     (row-fails (λ m f. not (inRange h m f)) (number 0 mostProfile) isProfileOutside (λ f. min (valueOf f) most) (profile-off h) 20 0 l))
 
--- ---- what is not outside is the number itself, and what the blocks hold
+-- ---- numbers that are not outside their ranges are not capped, and what the blocks hold
 pub exact-C : (h : Years) (l : Line) → Early h → tagOf l ≡ C → isOutside h l ≡ false → (dateReadOf C l .year ≡ yearOn l) × (any isPointOutside (pointRow l) ≡ false)
 unfolding dateReadOf isPointsOutside
 exact-C h l y e o =
@@ -106,7 +106,7 @@ point-fits vs o k h = unfold storedPoint isPointOutside in go (getD vs k 0) (any
         at true e = omega arith
         at false e = let h : v ≤ mostPower = ltb-false mostPower v e in omega arith
 
--- ---- how many there are
+-- ---- the number of values
 pub point-count : (l : Line) → length (pointRow l) ≡ 20
 unfolding pointRow
 point-count l = length-tab 20 0 _

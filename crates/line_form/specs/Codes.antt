@@ -1,4 +1,4 @@
--- The 20 values of a C or P line as they are handed out: a number up to the most, and a code of its own for a missing point.
+-- The 20 values of a C or P line as codes: a number capped at 10^18, or a code of its own for a missing point.
 use mathlib.Core.Bool.{Bool, _&&_, not, cond}
 use mathlib.Core.List.{List}
 use Prim.Native.Nat.{ℕ, _+_, min}
@@ -13,11 +13,11 @@ use Rattle.meaning.specs.Blocks.{missingPoint}
 abbrev pub dash : ℕ
 dash = 18446744073709551615
 
--- of a C line
+-- the codes of a C line
 unfoldable pub pointRow : Line → List ℕ
 pointRow l = tab 20 0 (λ h. cond (isDash (fieldAt l (4 + h))) dash (min (valueAt l h) most))
 
--- of a P line
+-- the codes of a P line
 unfoldable pub profileRow : Line → List ℕ
 profileRow l = tab 20 0 (λ h. min (valueAt l h) most)
 
@@ -28,6 +28,6 @@ isPointOutside v = not (eqb v dash) && ltb mostPower v
 unfoldable pub isProfileOutside : ℕ → Bool
 isProfileOutside v = ltb mostProfile v
 
--- a point's code as the block has it
+-- what the block holds for a point's code
 unfoldable pub storedPoint : ℕ → ℕ
 storedPoint v = cond (eqb v dash) missingPoint v

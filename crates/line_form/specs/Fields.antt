@@ -1,4 +1,4 @@
--- The fields of a line, as one pass over its bytes tells them (document 01, Calls and the lines of a file).
+-- The fields of a line, as found in one pass over its bytes (document 01, Calls and the lines of a file).
 use mathlib.Core.Path.{_≡_}
 use mathlib.Core.Bool.{false, cond}
 use mathlib.Core.List.{List}
@@ -10,30 +10,34 @@ use Rattle.text.specs.Numbers.{valueOf, most}
 use Rattle.meaning.specs.Line.{Line}
 use Rattle.meaning.specs.Refusals.{isIllegible}
 use Rattle.line_form.specs.Shapes.{shapeOf}
+use Rattle.line_form.specs.declared.Shape.the-variants.{Other}
+use Rattle.line_form.specs.declared.Field.{Field}
 use Rattle.line_form.specs.declared.Fields.{Fields}
 
--- more than a line of any tag has
+-- no line of any tag has more fields
 abbrev pub mostFields : ℕ
 mostFields = 24
 
--- 2: nothing is told of an illegible line
+-- a field from its bytes
+unfoldable pub fieldOf : List ℕ → Field
+fieldOf f = record { shape = shapeOf f; value = min (valueOf f) most }
+
+-- a place past the last field
+abbrev pub noField : Field
+noField = record { shape = Other; value = 0 }
+
+-- 2: an illegible line has no fields
 abbrev pub noFields : Fields
-noFields = record { count = 0; shapes = replicate mostFields 50; values = replicate mostFields 0 }
-
-unfoldable pub shapesOf : Line → List ℕ
-shapesOf l = tab mostFields 0 (λ k. shapeOf (fieldAt l k))
-
-unfoldable pub valuesOf : Line → List ℕ
-valuesOf l = tab mostFields 0 (λ k. min (valueOf (fieldAt l k)) most)
+noFields = record { count = 0; fields = replicate mostFields noField }
 
 unfoldable pub fieldsOf : Line → Fields
-fieldsOf l = cond (isIllegible l) noFields (record { count = min (tabs l + 1) 25; shapes = shapesOf l; values = valuesOf l })
+fieldsOf l = cond (isIllegible l) noFields (record { count = min (tabs l + 1) 25; fields = tab mostFields 0 (λ k. fieldOf (fieldAt l k)) })
 
--- these are the fields of a line that 2 leaves
-pub record Tells (f : Fields) (l : Line) : Type 0 where
+-- f holds the fields of the legible line l
+pub record ReadFrom (f : Fields) (l : Line) : Type 0 where
   pub legible : isIllegible l ≡ false
-  pub told : f ≡ fieldsOf l
+  pub read : f ≡ fieldsOf l
 
--- of every line that these are the fields of
-abbrev pub Of : Fields → (Line → Type 0) → Type 0
-Of f Says = (l : Line) → Tells f l → Says l
+-- Says holds for every line whose fields f holds
+abbrev pub EachLine : Fields → (Line → Type 0) → Type 0
+EachLine f Says = (l : Line) → ReadFrom f l → Says l

@@ -1,4 +1,4 @@
--- C and P at once, by whether a dash may stand for a value.
+-- The values of C and P lines together, by whether a dash is allowed.
 use mathlib.Core.Bool.{Bool, true, false, _&&_, _||_, not, cond}
 use mathlib.Core.List.{List}
 use Prim.Native.Nat.{ℕ, _+_, min}
@@ -10,7 +10,7 @@ use Rattle.text.specs.Numbers.{isNumber, valueOf, isDash, most}
 use Rattle.meaning.specs.Line.{Line, Tag, C, P, Form, number, numberOrDash, mostPower, mostProfile}
 use Rattle.line_form.specs.Reads.{inForms}
 use Rattle.line_form.specs.Codes.{dash}
-use Rattle.line_form.specs.declared.Row.{Row}
+use Rattle.line_form.specs.declared.values.Row.{Row}
 
 abbrev pub rowTag : Bool → Tag
 rowTag true = C
@@ -33,6 +33,6 @@ rowAt dashes l n = tab 20 0 (λ h. codeOf dashes (fieldAt l (n + h)))
 unfoldable pub isAbove : Bool → ℕ → ℕ → Bool
 isAbove dashes b v = not (dashes && eqb v dash) && ltb b v
 
--- the 20 fields past the date
+-- the 20 fields after the date
 unfoldable pub rowOf : Bool → Line → Row
 rowOf dashes l = record { formed = inForms (replicate 20 (rowForm dashes)) (restAt l 4); codes = rowAt dashes l 4 }

@@ -1,52 +1,59 @@
-// X and D: a date, and a number.
-use crate::DailyRead;
+// X and D lines: a date, and a number.
 use crate::Fields;
-use crate::ReadingRead;
-use crate::parts::both;
+use crate::parts::byte_of;
 use crate::parts::is_dated;
 use crate::parts::is_number;
+use readings::Kind;
+use readings::is_kind;
+use readings::kind_of;
+use text::and;
 ghost use mathlib.Core.Path.{_≡_};
-ghost use Rattle.meaning.specs.Line.{kindOfLetter};
-ghost use Rattle.meaning.specs.Blocks.{letterOfKind};
-ghost use Rattle.line_form.specs.Fields.{Of};
+ghost use Rattle.line_form.specs.Fields.{EachLine};
 ghost use Rattle.line_form.specs.Reads.{readingReadOf, dailyReadOf};
 
-// R, C or E; 0 for no kind.
-fn kind_of(letter: u8) -> u8
-    ensures { λ r. ⌜ r ≡ letterOfKind (kindOfLetter letter) ⌝ }
-{
-    match letter {
-        b'R' => b'R',
-        b'C' => b'C',
-        b'E' => b'E',
-        _ => 0,
-    }
+// What an X line says, and whether its fields are in their form.
+pub struct ReadingRead {
+    pub formed: bool,
+    pub year: u64,
+    pub month: u64,
+    pub day: u64,
+    pub index: u64,
+    pub kind: Kind,
 }
 
-pub fn read_reading(told: Fields) -> ReadingRead
-    ensures { λ r. ⌜ Of told (λ l. r ≡ readingReadOf l) ⌝ }
+// What a D line says, and whether its fields are in their form.
+pub struct DailyRead {
+    pub formed: bool,
+    pub year: u64,
+    pub month: u64,
+    pub day: u64,
+    pub sum: u64,
+}
+
+pub fn read_reading(fields: Fields) -> ReadingRead
+    ensures { λ r. ⌜ EachLine fields (λ l. r ≡ readingReadOf l) ⌝ }
 {
-    let kind = kind_of(told.shapes[5]);
-    let end = both(is_number(told.shapes[4]), kind != 0);
+    let letter = byte_of(fields.fields[5]);
+    let end = and(is_number(fields.fields[4]), is_kind(letter));
     ReadingRead {
-        formed: both(is_dated(told), end),
-        year: told.values[1],
-        month: told.values[2],
-        day: told.values[3],
-        index: told.values[4],
-        kind,
+        formed: and(is_dated(fields), end),
+        year: fields.fields[1].value,
+        month: fields.fields[2].value,
+        day: fields.fields[3].value,
+        index: fields.fields[4].value,
+        kind: kind_of(letter),
     }
 }
 
-pub fn read_daily(told: Fields) -> DailyRead
-    ensures { λ r. ⌜ Of told (λ l. r ≡ dailyReadOf l) ⌝ }
+pub fn read_daily(fields: Fields) -> DailyRead
+    ensures { λ r. ⌜ EachLine fields (λ l. r ≡ dailyReadOf l) ⌝ }
 {
-    let sum = is_number(told.shapes[4]);
+    let sum = is_number(fields.fields[4]);
     DailyRead {
-        formed: both(is_dated(told), sum),
-        year: told.values[1],
-        month: told.values[2],
-        day: told.values[3],
-        sum: told.values[4],
+        formed: and(is_dated(fields), sum),
+        year: fields.fields[1].value,
+        month: fields.fields[2].value,
+        day: fields.fields[3].value,
+        sum: fields.fields[4].value,
     }
 }

@@ -1,33 +1,43 @@
-// What lines have in common: numbers, and a date past the tag.
+// What the readers share: numbers, and the date after the tag.
+use crate::Field;
 use crate::Fields;
-use crate::NUMBER;
+use crate::Shape;
+use text::and;
 ghost use mathlib.Core.Path.{_≡_};
-ghost use mathlib.Core.Bool.{_&&_};
-ghost use lib.Dec.{eqb};
-ghost use Rattle.line_form.specs.Fields.{Of};
+ghost use Rattle.line_form.specs.Shapes.{isNumeral, byteOf};
+ghost use Rattle.line_form.specs.Fields.{EachLine};
 ghost use Rattle.line_form.specs.Reads.{isDateFormed};
 
-pub fn both(a: bool, b: bool) -> bool
-    ensures { λ r. ⌜ r ≡ (a && b) ⌝ }
+pub(crate) fn is_number(field: Field) -> bool
+    ensures { λ r. ⌜ r ≡ isNumeral (field .shape) ⌝ }
 {
-    if a {
-        return b;
+    let shape = field.shape;
+    match shape {
+        Shape::Number => true,
+        Shape::Edition => false,
+        Shape::Byte(_) => false,
+        Shape::Other => false,
     }
-    false
 }
 
-// A field by its shape.
-pub(crate) fn is_number(shape: u8) -> bool
-    ensures { λ r. ⌜ r ≡ eqb shape 48 ⌝ }
+// The byte of a field that is a single byte, else 0, which is no letter and no dash.
+pub(crate) fn byte_of(field: Field) -> u8
+    ensures { λ r. ⌜ r ≡ byteOf (field .shape) ⌝ }
 {
-    shape == NUMBER
+    let shape = field.shape;
+    match shape {
+        Shape::Number => 0,
+        Shape::Edition => 0,
+        Shape::Byte(b) => b,
+        Shape::Other => 0,
+    }
 }
 
-// Year, month and day are numbers.
-pub(crate) fn is_dated(told: Fields) -> bool
-    ensures { λ r. ⌜ Of told (λ l. r ≡ isDateFormed l) ⌝ }
+// Whether year, month and day are numbers.
+pub(crate) fn is_dated(fields: Fields) -> bool
+    ensures { λ r. ⌜ EachLine fields (λ l. r ≡ isDateFormed l) ⌝ }
 {
-    let month = is_number(told.shapes[2]);
-    let day = is_number(told.shapes[3]);
-    both(is_number(told.shapes[1]), both(month, day))
+    let month = is_number(fields.fields[2]);
+    let day = is_number(fields.fields[3]);
+    and(is_number(fields.fields[1]), and(month, day))
 }

@@ -1,31 +1,27 @@
 // The shape of a field.
-use crate::EDITION;
-use crate::NUMBER;
-use crate::OTHER;
+use crate::Shape;
 ghost use mathlib.Core.Path.{_≡_};
-ghost use mathlib.Core.Bool.{cond};
-ghost use Rattle.text.specs.Fields.{reads, edition};
-ghost use Rattle.line_form.specs.Shapes.{aloneOf};
+ghost use Rattle.line_form.specs.Shapes.{aloneOf, shapeBy};
 
-// One byte alone in its field.
-fn alone_of(f: &[u8]) -> u8
+// The shape of a field that is neither a number nor the edition.
+fn alone_of(f: &[u8]) -> Shape
     ensures { λ r. ⌜ r ≡ aloneOf (now (f .entry)) ⌝ }
 {
     if f.len() != 1 {
-        return OTHER;
+        return Shape::Other;
     }
-    f[0]
+    Shape::Byte(f[0])
 }
 
-// By whether the field is a number.
-pub(crate) fn shape_of(f: &[u8], formed: bool) -> u8
-    ensures { λ r. ⌜ r ≡ cond formed 48 (cond (reads (now (f .entry)) edition) 49 (aloneOf (now (f .entry)))) ⌝ }
+// The shape of a field; `formed` says whether it is a number.
+pub(crate) fn shape_of(f: &[u8], formed: bool) -> Shape
+    ensures { λ r. ⌜ r ≡ shapeBy formed (now (f .entry)) ⌝ }
 {
     if formed {
-        return NUMBER;
+        return Shape::Number;
     }
     if text::is_edition(f) {
-        return EDITION;
+        return Shape::Edition;
     }
     alone_of(f)
 }

@@ -1,21 +1,29 @@
-// S: edition, AL, filière, meter, PS.
-use crate::EDITION;
+// S lines: edition, AL, filière, meter, PS.
+use crate::Field;
 use crate::Fields;
 use crate::Meter;
+use crate::Shape;
 use crate::Site;
-use crate::SiteRead;
-use crate::parts::both;
+use crate::parts::byte_of;
 use crate::parts::is_number;
+use text::and;
 ghost use mathlib.Core.Path.{_≡_};
 ghost use Rattle.meaning.specs.Line.{meterOfLetter, isMeter};
 ghost use Rattle.meaning.specs.Refusals.{isTooSoon};
-ghost use Rattle.line_form.specs.Fields.{Of};
-ghost use Rattle.line_form.specs.Views.{meterView, meterShown};
+ghost use Rattle.line_form.specs.Shapes.{isEdition};
+ghost use Rattle.line_form.specs.Fields.{EachLine};
+ghost use Rattle.line_form.specs.Views.{meterView, meterRepr};
 ghost use Rattle.line_form.specs.Reads.{siteReadOf};
 
-// T or I.
+// What an S line says, and whether its fields are in their form.
+pub struct SiteRead {
+    pub formed: bool,
+    pub site: Site,
+}
+
+// The meter of a letter, T or I.
 fn meter_of(letter: u8) -> Meter
-    ensures { λ r. ⌜ r ≡ meterShown (meterOfLetter letter) ⌝ }
+    ensures { λ r. ⌜ r ≡ meterRepr (meterOfLetter letter) ⌝ }
 {
     match letter {
         b'T' => Meter::Curve,
@@ -34,27 +42,39 @@ fn is_meter(meter: Meter) -> bool
     }
 }
 
-// 9: filières 6 to 11 are certified from AL 2023 on.
+fn is_edition(field: Field) -> bool
+    ensures { λ r. ⌜ r ≡ isEdition (field .shape) ⌝ }
+{
+    let shape = field.shape;
+    match shape {
+        Shape::Number => false,
+        Shape::Edition => true,
+        Shape::Byte(_) => false,
+        Shape::Other => false,
+    }
+}
+
+// 9: filières 6 to 11 are certified only from AL 2023 on.
 pub fn is_too_soon(al: u64, filiere: u64) -> bool
     ensures { λ r. ⌜ r ≡ isTooSoon al filiere ⌝ }
 {
-    both(6 <= filiere, al < 2023)
+    and(6 <= filiere, al < 2023)
 }
 
-pub fn read_site(told: Fields) -> SiteRead
-    ensures { λ r. ⌜ Of told (λ l. r ≡ siteReadOf l) ⌝ }
+pub fn read_site(fields: Fields) -> SiteRead
+    ensures { λ r. ⌜ EachLine fields (λ l. r ≡ siteReadOf l) ⌝ }
 {
-    let meter = meter_of(told.shapes[4]);
-    let end = both(is_meter(meter), is_number(told.shapes[5]));
-    let filiere = is_number(told.shapes[3]);
-    let numbers = both(is_number(told.shapes[2]), both(filiere, end));
+    let meter = meter_of(byte_of(fields.fields[4]));
+    let end = and(is_meter(meter), is_number(fields.fields[5]));
+    let filiere = is_number(fields.fields[3]);
+    let numbers = and(is_number(fields.fields[2]), and(filiere, end));
     SiteRead {
-        formed: both(told.shapes[1] == EDITION, numbers),
+        formed: and(is_edition(fields.fields[1]), numbers),
         site: Site {
-            al: told.values[2],
-            filiere: told.values[3],
+            al: fields.fields[2].value,
+            filiere: fields.fields[3].value,
             meter,
-            ps: told.values[5],
+            ps: fields.fields[5].value,
         },
     }
 }

@@ -1,49 +1,70 @@
-// 3: the tag of a line, by its fields.
+// 3: the tag of a line, from its fields.
 use crate::Fields;
+use crate::Tag;
+use crate::parts::byte_of;
 ghost use mathlib.Core.Path.{_≡_};
-ghost use lib.ListN.{getD};
-ghost use Rattle.meaning.specs.Line.{rank, tagOfLetter};
-ghost use Rattle.line_form.specs.Fields.{Of};
-ghost use Rattle.line_form.specs.Tags.{sizes, knownTag};
+ghost use Rattle.meaning.specs.Line.{rank as rankOf, size, tagOfLetter};
+ghost use Rattle.line_form.specs.Fields.{EachLine};
+ghost use Rattle.line_form.specs.Views.{tagView};
+ghost use Rattle.line_form.specs.Tags.{knownTag};
 
-// The number of fields by the tag's rank, the tag included: none, S, C, X, D, P, B, R, E.
-const SIZES: [usize; 9] = [0, 6, 24, 6, 5, 24, 2, 3, 2];
-
-// A tag's rank in file order, by its letter; 0 for no tag.
-fn rank_of(letter: u8) -> u64
-    ensures { λ r. ⌜ r ≡ rank (tagOfLetter letter) ⌝ }
+fn tag_of(letter: u8) -> Tag
+    ensures { λ r. ⌜ tagView r ≡ tagOfLetter letter ⌝ }
 {
     match letter {
-        b'S' => 1,
-        b'C' => 2,
-        b'X' => 3,
-        b'D' => 4,
-        b'P' => 5,
-        b'B' => 6,
-        b'R' => 7,
-        b'E' => 8,
-        _ => 0,
+        b'S' => Tag::S,
+        b'C' => Tag::C,
+        b'X' => Tag::X,
+        b'D' => Tag::D,
+        b'P' => Tag::P,
+        b'B' => Tag::B,
+        b'R' => Tag::R,
+        b'E' => Tag::E,
+        _ => Tag::Unknown,
     }
 }
 
-// How many fields a line of a tag has, by the tag's rank.
-fn field_count(tag: u64) -> usize
-    ensures { λ r. ⌜ r ≡ getD sizes tag 0 ⌝ }
+// The place of a tag in file order, 0 for no tag. A record keeps the last tag by its rank.
+pub fn rank(tag: Tag) -> u64
+    ensures { λ r. ⌜ r ≡ rankOf (tagView tag) ⌝ }
 {
-    if 9 <= tag {
-        return 0;
+    match tag {
+        Tag::S => 1,
+        Tag::C => 2,
+        Tag::X => 3,
+        Tag::D => 4,
+        Tag::P => 5,
+        Tag::B => 6,
+        Tag::R => 7,
+        Tag::E => 8,
+        Tag::Unknown => 0,
     }
-    let i = tag as usize;
-    SIZES[i]
 }
 
-// 3: the rank of the tag of a legible line, 0 where the tag is unknown or the number of fields is not the tag's.
-pub fn known_tag(told: Fields) -> u64
-    ensures { λ r. ⌜ Of told (λ l. r ≡ knownTag l) ⌝ }
+// The number of fields of a line of a tag, the tag included.
+fn field_count(tag: Tag) -> usize
+    ensures { λ r. ⌜ r ≡ size (tagView tag) ⌝ }
 {
-    let tag = rank_of(told.shapes[0]);
-    if told.count == field_count(tag) {
+    match tag {
+        Tag::S => 6,
+        Tag::C => 24,
+        Tag::X => 6,
+        Tag::D => 5,
+        Tag::P => 24,
+        Tag::B => 2,
+        Tag::R => 3,
+        Tag::E => 2,
+        Tag::Unknown => 0,
+    }
+}
+
+// The tag of a legible line, none where it does not have the tag's number of fields (3).
+pub fn known_tag(fields: Fields) -> Tag
+    ensures { λ r. ⌜ EachLine fields (λ l. tagView r ≡ knownTag l) ⌝ }
+{
+    let tag = tag_of(byte_of(fields.fields[0]));
+    if fields.count == field_count(tag) {
         return tag;
     }
-    0
+    Tag::Unknown
 }

@@ -1,8 +1,9 @@
-pub mod SiteTold
-pub mod PointJudged
+pub mod Checked
+pub mod SiteSteps
+pub mod PointChecked
 pub mod InWinter
-pub mod PointTold
-pub mod ReadingJudged
+pub mod PointSteps
+pub mod ReadingChecked
 pub mod OnAxis
-pub mod ReadingTold
-pub mod YearTold
+pub mod ReadingSteps
+pub mod YearSteps

@@ -1,4 +1,4 @@
--- X and D: the checks that the code asks are the conditions of the line's refusal, and what it reads of an accepted line is what the line says.
+-- X and D: the checks of the code are the conditions of the line's refusal, and what it reads from an accepted line is what the line says.
 use mathlib.Core.Path.{_≡_, refl, ap, sym, _∙_}
 use mathlib.Core.Bool.{Bool, true, false, not, _&&_, _||_}
 use mathlib.Core.Option.{none}
@@ -12,22 +12,22 @@ use Rattle.calendar.specs.Answers.{positionIn}
 use Rattle.text.specs.Fields.{fieldAt}
 use Rattle.meaning.specs.Line.{Line, X, D, kindOf, keyOf, yearOn, monthOn, dayOn, mostIndex, mostDaily}
 use Rattle.meaning.specs.Refusals.{outside, noDate, holds, refusal, isOutside, hasNoDate}
-use Rattle.meaning.specs.Blocks.{letterOfKind}
+use Rattle.readings.specs.Readings.{kindRepr}
 use Rattle.line_form.specs.Reads.{readingReadOf, dailyReadOf}
-use Rattle.line_form.specs.Ranges.{isReadingOutside, isDailyOutside, lacksDate}
-use Rattle.line_form.specs.declared.ReadingRead.{ReadingRead}
-use Rattle.line_form.specs.declared.DailyRead.{DailyRead}
+use Rattle.line_form.specs.Ranges.{isReadingOutside, isDailyOutside, noDateFor}
+use Rattle.line_form.specs.declared.axis_fields.ReadingRead.{ReadingRead}
+use Rattle.line_form.specs.declared.axis_fields.DailyRead.{DailyRead}
 use Rattle.line_form.proofs.Capped.{early-history, not-leb}
 use Rattle.line_form.proofs.Checks.{malformed-X, malformed-D, outside-X, outside-D, exact-X, exact-D, no-date}
-use Rattle.line_checks.specs.Before.{Known, isReached, beforeLike, beforeRising, beforeReading}
-use Rattle.line_checks.specs.Order.{numberBy, firstNumber, isLate}
-use Rattle.line_checks.proofs.Chain.{Asks, clear, barred-rank, never-soon, never-falling, never-many, no-count}
+use Rattle.line_checks.specs.Before.{Known, isNotLater, beforeLike, beforeRising, beforeReading}
+use Rattle.line_checks.specs.Order.{numberBy, firstRefusal, isMisplaced}
+use Rattle.line_checks.proofs.Chain.{Asks, clear, misplaced-rank, never-soon, never-falling, never-many, no-count}
 use Rattle.line_checks.proofs.ByTag.{number-is, not-both}
 use Rattle.line_checks.specs.Places.{placeOr, keyFor}
 use Rattle.line_checks.proofs.Dates.{axis-low, key-on, position-on}
-use Rattle.line_steps.proofs.ReadingJudged.{ReadingSays, DailySays}
+use Rattle.line_steps.proofs.ReadingChecked.{ReadingSays, DailySays}
 
--- a number above its bound, or a year off the span
+-- a number above its bound, or a year outside the span
 off : (a : Bool) (v b : ℕ) → (not a || ltb b v) ≡ not (a && leb v b)
 off a v b = ap (λ (x : Bool). not a || x) (sym (not-leb v b)) ∙ sym (not-both a (leb v b))
 
@@ -51,19 +51,19 @@ module _ (l : Line) (last al f latest previous readings : ℕ) (k : Known X l) w
       let h = historyYears al f in
       position-on X l (k .tag) tt d (axisYears h) (readingReadOf l .year) (exact-X h l (early-history al f) (k .tag) o .0) (reading-year o)
 
-  reading-kind : readingReadOf l .kind ≡ letterOfKind (kindOf (fieldAt l 5))
+  reading-kind : readingReadOf l .kind ≡ kindRepr (kindOf (fieldAt l 5))
   unfolding readingReadOf
   reading-kind = refl
 
   reading-asks : Asks (beforeReading last (historyYears al f) latest previous readings) l (record {
-    misplaced = isLate last 3;
+    misplaced = isMisplaced last X;
     malformed = not (readingReadOf l .formed);
     outside = not (among (axisYears (historyYears al f)) (readingReadOf l .year) && leb (readingReadOf l .index) mostIndex);
-    dateless = lacksDate false (readingReadOf l .year) (readingReadOf l .month) (readingReadOf l .day);
-    reached = isReached latest (keyFor (readingReadOf l .year) (readingReadOf l .month) (readingReadOf l .day));
-    soon = false;
+    «no_date» = noDateFor false (readingReadOf l .year) (readingReadOf l .month) (readingReadOf l .day);
+    «not_later» = isNotLater latest (keyFor (readingReadOf l .year) (readingReadOf l .month) (readingReadOf l .day));
+    «too_soon» = false;
     falling = ltb (readingReadOf l .index) previous;
-    excess = leb 600 readings;
+    «too_many» = leb 600 readings;
     miscounted = false;
   })
   unfolding holds beforeReading beforeLike isReadingOutside
@@ -74,28 +74,28 @@ module _ (l : Line) (last al f latest previous readings : ℕ) (k : Known X l) w
       let r = readingReadOf l in
       let e = early-history al f in
       record {
-        misplaced-is = rw u (barred-rank last X refl);
+        misplaced-is = rw u (misplaced-rank last X refl);
         malformed-is = malformed-X l u;
         outside-is = outside-X h l e u ∙ off (among (axisYears h) (r .year)) (r .index) mostIndex;
         date-is = λ o. unfold readingReadOf in no-date X l (readingReadOf l .year) u tt (exact-X h l e u o .0);
-        reached-is = λ o d. rw u (ap (isReached latest) (sym (reading-key o d)));
+        later-is = λ o d. rw u (ap (isNotLater latest) (sym (reading-key o d)));
         soon-is = λ _. never-soon b l X u refl;
         falling-is = λ o. rw u (ap (λ (v : ℕ). ltb v previous) (sym (exact-X h l e u o .1)));
         excess-is = rw u refl;
         count-is = λ _. no-count b l X u refl;
       }
 
-  pub reading-number : (r : ReadingRead) (y : Years) (m a i d e : Bool) (v n : ℕ) → r ≡ readingReadOf l → m ≡ isLate last 3 → y ≡ axisYears (historyYears al f) → a ≡ among y (r .year)
-      → i ≡ (a && leb (r .index) mostIndex) → d ≡ lacksDate false (r .year) (r .month) (r .day) → v ≡ keyFor (r .year) (r .month) (r .day) → e ≡ isReached latest v
-      → n ≡ firstNumber (record {
+  pub reading-number : (r : ReadingRead) (y : Years) (m a i d e : Bool) (v n : ℕ) → r ≡ readingReadOf l → m ≡ isMisplaced last X → y ≡ axisYears (historyYears al f) → a ≡ among y (r .year)
+      → i ≡ (a && leb (r .index) mostIndex) → d ≡ noDateFor false (r .year) (r .month) (r .day) → v ≡ keyFor (r .year) (r .month) (r .day) → e ≡ isNotLater latest v
+      → n ≡ firstRefusal (record {
         misplaced = m;
         malformed = not (r .formed);
         outside = not i;
-        dateless = d;
-        reached = e;
-        soon = false;
+        «no_date» = d;
+        «not_later» = e;
+        «too_soon» = false;
         falling = ltb (r .index) previous;
-        excess = leb 600 readings;
+        «too_many» = leb 600 readings;
         miscounted = false;
       })
       → n ≡ numberBy (refusal (beforeReading last (historyYears al f) latest previous readings) l)
@@ -139,14 +139,14 @@ module _ (l : Line) (last al f latest : ℕ) (k : Known D l) where
       position-on D l (k .tag) tt d (axisYears h) (dailyReadOf l .year) (exact-D h l (early-history al f) (k .tag) o .0) (daily-year o)
 
   daily-asks : Asks (beforeRising last (historyYears al f) latest) l (record {
-    misplaced = isLate last 4;
+    misplaced = isMisplaced last D;
     malformed = not (dailyReadOf l .formed);
     outside = not (among (axisYears (historyYears al f)) (dailyReadOf l .year) && leb (dailyReadOf l .sum) mostDaily);
-    dateless = lacksDate false (dailyReadOf l .year) (dailyReadOf l .month) (dailyReadOf l .day);
-    reached = isReached latest (keyFor (dailyReadOf l .year) (dailyReadOf l .month) (dailyReadOf l .day));
-    soon = false;
+    «no_date» = noDateFor false (dailyReadOf l .year) (dailyReadOf l .month) (dailyReadOf l .day);
+    «not_later» = isNotLater latest (keyFor (dailyReadOf l .year) (dailyReadOf l .month) (dailyReadOf l .day));
+    «too_soon» = false;
     falling = false;
-    excess = false;
+    «too_many» = false;
     miscounted = false;
   })
   unfolding holds beforeRising beforeLike isDailyOutside
@@ -157,28 +157,28 @@ module _ (l : Line) (last al f latest : ℕ) (k : Known D l) where
       let r = dailyReadOf l in
       let e = early-history al f in
       record {
-        misplaced-is = rw u (barred-rank last D refl);
+        misplaced-is = rw u (misplaced-rank last D refl);
         malformed-is = malformed-D l u;
         outside-is = outside-D h l e u ∙ off (among (axisYears h) (r .year)) (r .sum) mostDaily;
         date-is = λ o. unfold dailyReadOf in no-date D l (dailyReadOf l .year) u tt (exact-D h l e u o .0);
-        reached-is = λ o d. rw u (ap (isReached latest) (sym (daily-key o d)));
+        later-is = λ o d. rw u (ap (isNotLater latest) (sym (daily-key o d)));
         soon-is = λ _. never-soon b l D u refl;
         falling-is = λ _. never-falling b l D u refl;
         excess-is = never-many b l D u refl;
         count-is = λ _. no-count b l D u refl;
       }
 
-  pub daily-number : (r : DailyRead) (y : Years) (m a i d e : Bool) (v n : ℕ) → r ≡ dailyReadOf l → m ≡ isLate last 4 → y ≡ axisYears (historyYears al f) → a ≡ among y (r .year)
-      → i ≡ (a && leb (r .sum) mostDaily) → d ≡ lacksDate false (r .year) (r .month) (r .day) → v ≡ keyFor (r .year) (r .month) (r .day) → e ≡ isReached latest v
-      → n ≡ firstNumber (record {
+  pub daily-number : (r : DailyRead) (y : Years) (m a i d e : Bool) (v n : ℕ) → r ≡ dailyReadOf l → m ≡ isMisplaced last D → y ≡ axisYears (historyYears al f) → a ≡ among y (r .year)
+      → i ≡ (a && leb (r .sum) mostDaily) → d ≡ noDateFor false (r .year) (r .month) (r .day) → v ≡ keyFor (r .year) (r .month) (r .day) → e ≡ isNotLater latest v
+      → n ≡ firstRefusal (record {
         misplaced = m;
         malformed = not (r .formed);
         outside = not i;
-        dateless = d;
-        reached = e;
-        soon = false;
+        «no_date» = d;
+        «not_later» = e;
+        «too_soon» = false;
         falling = false;
-        excess = false;
+        «too_many» = false;
         miscounted = false;
       })
       → n ≡ numberBy (refusal (beforeRising last (historyYears al f) latest) l)

@@ -1,6 +1,6 @@
-// B and R lines: the refusals 4 to 12, and what an accepted one changes, the progress alone.
-mod judging; // the refusals
-mod taking; // what they change
+// B and R lines: the refusals 4 to 12, and what an accepted line changes, the progress only.
+mod checks; // the refusals
+mod changes; // the changes
 
-pub use taking::break_line;
-pub use taking::rate_line;
+pub use changes::break_line;
+pub use changes::rate_line;

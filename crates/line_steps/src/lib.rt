@@ -1,8 +1,8 @@
-// A line by its tag: refused by one of 4 to 12, or taken into the progress and the lent blocks. Of each tag one function judges the line (judging) and one
-// takes it (taking); a refused line changes nothing.
+// A line by its tag: refused by one of 4 to 12, or taken into the progress and the lent blocks. For each tag one function checks the line (checks)
+// and one applies it (changes); a refused line changes nothing.
 mod site_and_end; // S and E
 mod points_and_profiles; // C and P: 20 values at a winter date
-mod readings_and_sums; // X and D: a number at a date of the axis; the reading is left to the caller
+mod readings_and_sums; // X and D: a number at a date of the axis; the caller stores the reading
 mod breaks_and_rates; // B and R: a history year
 
 pub use breaks_and_rates::break_line;

@@ -1,6 +1,6 @@
-// S and E lines: the refusals 4 to 12, and what an accepted one changes, the progress alone.
-mod judging; // the refusals
-mod taking; // what they change
+// S and E lines: the refusals 4 to 12, and what an accepted line changes, the progress only.
+mod checks; // the refusals
+mod changes; // the changes
 
-pub use taking::end_line;
-pub use taking::site_line;
+pub use changes::end_line;
+pub use changes::site_line;

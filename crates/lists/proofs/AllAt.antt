@@ -15,7 +15,7 @@ use Rattle.lists.specs.Lists.{all, allAt}
 use Rattle.lists.proofs.Snoc.{allAt-at}
 use Rattle.lists.proofs.Tests.{is-true, and-assoc}
 
--- ---- the elements that are left of a list, one less with each turn
+-- ---- the elements that are left of a list, one less in each iteration
 pub allAt-on : {A : Type 0} (p : ℕ → A → Bool) (xs : List A) (i : ℕ) (d : A) → i < length xs → allAt p i (drop i xs) ≡ (p i (getD xs i d) && allAt p (i + 1) (drop (i + 1) xs))
 unfolding allAt
 allAt-on p xs i d h = rw (add-one i, drop-cons xs i d h)
@@ -60,7 +60,7 @@ allAt-all p q i (x ∷ xs) h =
 
 -- ---- what stands in a list
 
--- a part of a list has no more at a place than the list has further on
+-- at a place, a part of a list has at most the number that the list has there
 pub getD-part : (n i k : ℕ) (xs : List ℕ) → getD (take n (drop i xs)) k 0 ≤ getD xs (i + k) 0
 getD-part n i k xs = rw (← getD-drop i xs k 0) (go n k (drop i xs))
   where
@@ -83,10 +83,9 @@ allAt-read p xs d t u k = go (leb (length xs) k) refl
     go true e = rw (List·getD-eq-default xs d (leb-true (length xs) k e)) (u k)
     go false e = subst (λ (n : ℕ). T (p n (getD xs k d))) (zero-add k) (allAt-at p 0 xs t k d (leb-false (length xs) k e))
 
--- ---- a table of places, one less with each turn
--- ---- a walk that stops at the first that does not pass
+-- ---- a loop that stops at the first that does not pass
 
--- what is to be told is that this one passes, and what is left
+-- x says that this one passes (a) and that the rest does (b)
 pub stops : {x a : Bool} (b : Bool) → x ≡ (a && b) → a ≡ false → false ≡ x
 stops b e f = sym (e ∙ ap (λ (a : Bool). a && b) f)
 

@@ -7,7 +7,7 @@ use native.Mathlib.Omega.{arith}
 use lib.ListN.{length, getD}
 use Rattle.lists.specs.Lists.{tab, range, sum, count}
 use Rattle.lists.proofs.Tables.{tab-same}
-use Rattle.lists.proofs.Words.{count-append}
+use Rattle.lists.proofs.RestatedLists.{count-append}
 
 -- a table from a later place on
 pub tab-shift : {A : Type 0} (n m i : ℕ) (f : ℕ → A) → tab n (m + i) f ≡ tab n i (λ k. f (m + k))

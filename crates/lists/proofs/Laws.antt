@@ -11,8 +11,6 @@ use lib.ListN.{length, getD}
 use Rattle.lists.specs.Lists.{any, firstOf, or, seek, tab, Each, each-nil, each-cons, Some, here, there}
 use Rattle.lists.proofs.Tests.{or-split, is-true}
 
--- ---- tests
-
 -- ---- any and seek, one more at the end
 pub any-snoc : {A : Type 0} (p : A → Bool) (xs : List A) (x : A) → any p (xs ++ (x ∷ [])) ≡ (any p xs || p x)
 unfolding any
@@ -77,7 +75,7 @@ some-any p (there {x = x} {xs = xs} r) = go (p x) (some-any p r)
     go true u = tt
     go false u = u
 
--- an element that has one thing has what each has
+-- where each element has Q, one with P has both
 pub paired : {A : Type 0} {P Q : A → Type 0} {xs : List A} → Some P xs → Each Q xs → (x : A) × P x × Q x
 paired (here {x = x} p) (each-cons q r) = (x, p, q)
 paired (there s) (each-cons q r) = paired s r

@@ -1,13 +1,13 @@
 pub mod Tests
 pub mod Laws
 pub mod Reflect
-pub mod Words
+pub mod RestatedLists
 pub mod Blocks
 pub mod Snoc
 pub mod Sums
 pub mod Tables
-pub mod Walks
+pub mod Loops
 pub mod Tabs
 pub mod AllAt
 pub mod Ranges
-pub mod Turns
+pub mod FilledTables

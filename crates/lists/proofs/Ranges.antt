@@ -15,9 +15,7 @@ use Rattle.lists.proofs.Reflect.{of-all}
 use Rattle.lists.proofs.Sums.{each-in, some-in, each-range, in-range}
 use Rattle.lists.proofs.Tests.{same, is-true}
 
--- ---- tests
-
--- an element that is there is so whatever stands for a missing one
+-- an element within the list is the same whatever the default
 pub getD-any : {A : Type 0} (xs : List A) (i : ℕ) (d e : A) → i < length xs → getD xs i d ≡ getD xs i e
 getD-any [] i d e h = absurd (not-suc-le-zero h)
 getD-any (x ∷ xs) zero d e h = refl
@@ -102,7 +100,7 @@ any-moved p n i =
     (λ t. let s = some-of-range p n i t in range-some (λ k. p (i + k)) n 0 (s .0 - i) (omega arith) (omega (arith, s .1, s .2)) (subst (λ (m : ℕ). T (p m)) (omega (arith, s .1)) (s .3)))
     (λ t. let s = some-of-range (λ k. p (i + k)) n 0 t in range-some p n i (i + s .0) (omega arith) (omega (arith, s .2)) (s .3))
 
--- ---- what a walk from 0 finds
+-- ---- what a loop from 0 finds
 pub any-found : (p : ℕ → Bool) (n k : ℕ) → k < n → p k ≡ true → true ≡ any p (range 0 n)
 any-found p n k h e = sym (is-true (any p (range 0 n)) (range-some p n 0 k (omega arith) (omega arith) (rw e tt)))
 

@@ -93,7 +93,7 @@ sum-more (suc n) i f g h q a b m = go (eqb i q) refl (sum-more n (suc i) f g h q
     go true e r = let z : i ≡ q = eqb-true i q e in omega (arith, (rw (← z) at m), sum-rises n (suc i) f g h)
     go false e r = omega (arith, h i, r (omega (arith, eqb-false i q e)) (omega arith) m)
 
--- a count of numbers in a row is a sum of ones
+-- a count over numbers in a row is a sum of ones
 abbrev pub one : Bool → ℕ
 one b = cond b 1 0
 

@@ -22,7 +22,7 @@ each-in {P = P} r i = let e = paired i r in subst P (e .1) (e .2)
 pub some-in : {A : Type 0} {P : A → Type 0} {xs : List A} {x : A} → In x xs → P x → Some P xs
 some-in {P = P} i p = some-map (λ z e. subst P (sym e) p) i
 
--- where there are elements, the first has what all have
+-- in a list that is not empty, some element has what all have
 pub some-first : {A : Type 0} {P : A → Type 0} (xs : List A) → 0 < length xs → ((x : A) → P x) → Some P xs
 some-first [] h p = absurd (not-suc-le-zero h)
 some-first (x ∷ xs) h p = here (p x)
@@ -47,13 +47,13 @@ pub in-range : (i n k : ℕ) → i ≤ k → k < i + n → In k (range i n)
 unfolding range
 in-range i n k h g = some-tab n i (λ m. m) (k - i) (omega arith) (omega arith)
 
--- a table has at some place what its number at that place has
+-- what holds of f at some place holds of some element of the table
 pub some-ranged : {A : Type 0} {P : A → Type 0} (n i : ℕ) (f : ℕ → A) → Some (λ k. P (f k)) (range i n) → Some P (tab n i f)
 unfolding tab range
 some-ranged (suc n) i f (here p) = here p
 some-ranged (suc n) i f (there r) = there (some-ranged n (suc i) f r)
 
--- ---- pictures of a list
+-- ---- a list that a function is applied to
 pub each-picture : {A B : Type 0} {P : B → Type 0} (f : A → B) {xs : List A} → Each (λ x. P (f x)) xs → Each P (map f xs)
 each-picture f each-nil = each-nil
 each-picture f (each-cons p r) = each-cons p (each-picture f r)
@@ -113,8 +113,8 @@ unfolding flat
 some-flat (here {xs = xss} p) = some-left (flat xss) p
 some-flat (there {x = xs} r) = some-right xs (some-flat r)
 
--- ---- values that are there
--- what is there, if anything, has it
+-- ---- values that are present
+-- where a value is present, it has P
 abbrev pub Held : {A : Type 0} → (A → Type 0) → Option A → Type 0
 Held P none = Unit {0}
 Held P (some x) = P x

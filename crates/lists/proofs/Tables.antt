@@ -45,7 +45,7 @@ sets-fit p xs a (v ∷ vs) d t u =
     (set-fits p xs a v t (subst (λ (i : ℕ). T (p i v)) (add-zero a) (u 0 (omega arith))))
     (λ k h. subst (λ (i : ℕ). T (p i (getD vs k d))) (add-suc a k ∙ sym (suc-add a k)) (u (suc k) (omega arith)))
 
--- the same, where they are stored (b) or not
+-- the same, where the values are stored (b) or not
 pub set-fits-by : {A : Type 0} (b : Bool) (p : ℕ → A → Bool) (xs : List A) (a : ℕ) (v : A) → T (allAt p 0 xs) → (T b → T (p a v)) → T (allAt p 0 (cond b (set xs a v) xs))
 set-fits-by true p xs a v t u = set-fits p xs a v t (u tt)
 set-fits-by false p xs a v t u = t
@@ -115,7 +115,7 @@ present-snoc {A} {B} f (y ∷ xs) x = more (f y) (present-snoc f xs x)
     more none e = e
     more (some b) e = ap (λ (r : List B). b ∷ r) e
 
--- ---- the last of the values that are there
+-- ---- the last of the values that are present
 pub latest-present : {A B : Type 0} (f : A → Option B) (xs : List A) → latest some (present (map f xs)) ≡ latest f xs
 unfolding present latest
 latest-present f [] = refl
@@ -125,7 +125,7 @@ latest-present {A} {B} f (x ∷ xs) = more (f x) (latest-present f xs)
     more none e = e ∙ sym (or-none (latest f xs))
     more (some b) e = rw e
 
--- is that of some element
+-- it is that of some element
 pub latest-some : {A B : Type 0} (f : A → Option B) (xs : List A) (b : B) → latest f xs ≡ some b → Some (λ x. f x ≡ some b) xs
 unfolding latest
 latest-some f [] b e = let z : _≡_ {A = ℕ} 0 1 = cc in absurd (omega arith)

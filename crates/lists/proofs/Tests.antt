@@ -22,6 +22,10 @@ pub and-parts : (a b : Bool) → T (a && b) → T a × T b
 and-parts true b t = (tt, t)
 and-parts false b t = absurd t
 
+pub and-both : (a b : Bool) → (a && b) ≡ true → (a ≡ true) × (b ≡ true)
+and-both true b e = (refl, e)
+and-both false b e = absurd (false≢true e)
+
 pub and-made : (a b : Bool) → T a → T b → T (a && b)
 and-made true b s t = t
 and-made false b s t = s
@@ -61,6 +65,10 @@ pub or-absorb : (a b : Bool) → (T a → T b) → (a || b) ≡ b
 or-absorb true b f = same true b f (λ _. tt)
 or-absorb false b f = refl
 
+pub or-assoc : (a b c : Bool) → ((a || b) || c) ≡ (a || (b || c))
+or-assoc true b c = refl
+or-assoc false b c = refl
+
 -- neither of two
 pub or-parts : (a b : Bool) → (a || b) ≡ false → (a ≡ false) × (b ≡ false)
 or-parts false b e = (refl, e)
@@ -74,6 +82,10 @@ or-split false b t = (tt, t)
 pub is-false : (b : Bool) → T (not b) → b ≡ false
 is-false true t = absurd t
 is-false false t = refl
+
+pub not-and : (a b : Bool) → (not a && b) ≡ true → (a ≡ false) × (b ≡ true)
+not-and true b h = absurd (false≢true h)
+not-and false b h = (refl, h)
 
 pub both-not : (b : Bool) → T b → T (not b) → ⊥
 both-not true t n = n

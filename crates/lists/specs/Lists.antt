@@ -59,7 +59,7 @@ tab (suc n) i f = f i ∷ tab n (suc i) f
 unfoldable pub range : ℕ → ℕ → List ℕ
 range i n = tab n i (λ k. k)
 
--- the values that are there
+-- the values that are present
 unfoldable pub present : {A : Type 0} → List (Option A) → List A
 present [] = []
 present (none ∷ xs) = present xs

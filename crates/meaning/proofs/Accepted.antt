@@ -72,7 +72,7 @@ pub accepted-P : (b : Before) (l : Line) → refusal b l ≡ none → tagOf l �
 unfolding formsOf inRange numberAt
 accepted-P b l e u = record { year = range-at b l e P u 0 (omega arith); date = date-of b l e P u tt .0; winter = date-of b l e P u tt .1 tt }
 
--- a point that is there is at most 100,000,000 W
+-- a point that is present is at most 100,000,000 W
 unfoldable pub PointFits : Option ℕ → Type 0
 PointFits none = Unit {0}
 PointFits (some v) = v ≤ mostPower

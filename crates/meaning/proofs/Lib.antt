@@ -1,4 +1,5 @@
 pub mod Lines
+pub mod States
 pub mod Sizes
 pub mod Passed
 pub mod Accepted

@@ -1,4 +1,4 @@
--- Laws of lines: the ranks of tags, what 9 leaves, and the first line of an input.
+-- Laws of lines: the ranks of tags, what follows where 9 does not hold, and the first line of an input.
 use mathlib.Core.Path.{_≡_, refl}
 use mathlib.Core.Logic.{_≢_}
 use mathlib.Core.Bool.{Bool, true, false, not}

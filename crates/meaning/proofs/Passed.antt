@@ -21,7 +21,7 @@ each-head (each-cons q r) = q
 pub each-tail : {A : Type 0} {P : A → Type 0} {x : A} {xs : List A} → Each P (x ∷ xs) → Each P xs
 each-tail (each-cons q r) = r
 
--- what each of the order has, each reason has
+-- what holds of each in the order holds of every reason
 pub each-reason : {Q : Reason → Type 0} → Each Q order → (y : Reason) → Q y
 unfolding order
 each-reason e illegible = each-head e

@@ -4,9 +4,9 @@ use lib.Dec.{T, eqb, eqb→eq}
 use lib.ListN.{length}
 use borrow.Author.Tests.{eq-eqb}
 use Rattle.lists.proofs.Tests.{and-parts}
-use Rattle.meaning.specs.Blocks.{World, pointsSize, slotsSize, dailySize, readingsSize, curveSize, sizesFit}
+use Rattle.meaning.specs.Blocks.{Blocks, pointsSize, slotsSize, dailySize, readingsSize, curveSize, sizesFit}
 
-pub record Sizes (w : World) : Type 0 where
+pub record Sizes (w : Blocks) : Type 0 where
   pub near : length (w .near) ≡ pointsSize
   pub far : length (w .far) ≡ pointsSize
   pub slots : length (w .slots) ≡ slotsSize
@@ -14,7 +14,7 @@ pub record Sizes (w : World) : Type 0 where
   pub readings : length (w .readings) ≡ readingsSize
   pub curve : length (w .curve) ≡ curveSize
 
-pub sizes-of : (w : World) → T (sizesFit w) → Sizes w
+pub sizes-of : (w : Blocks) → T (sizesFit w) → Sizes w
 unfolding sizesFit
 sizes-of w t =
     let a = and-parts (eqb (length (w .near)) pointsSize) _ t in
@@ -31,7 +31,7 @@ sizes-of w t =
       curve = eqb→eq _ _ (e .1);
     }
 
-pub sizes-fit : (w : World) → Sizes w → T (sizesFit w)
+pub sizes-fit : (w : Blocks) → Sizes w → T (sizesFit w)
 unfolding sizesFit
 sizes-fit w z =
     rw (

@@ -6,11 +6,11 @@ use Prim.Native.Nat.{ℕ, _+_, _-_, _*_}
 use lib.Dec.{eqb, leb}
 use lib.ListN.{length, getD, replicate}
 use Rattle.lists.specs.Lists.{tab, orElse}
-use Rattle.meaning.specs.Filing.{Reading, reading, Kind, real, corrected, estimated, strange}
+use Rattle.meaning.specs.Filing.{Reading, reading, Kind, real, corrected, estimated, noKind}
 use Rattle.meaning.specs.Level.{missingEntry}
 
 -- every list that a call is lent
-pub record World : Type 0 where
+pub record Blocks : Type 0 where
   pub near : List ℕ
   pub far : List ℕ
   pub slots : List ℕ
@@ -40,7 +40,7 @@ readingsSize = 600
 abbrev pub curveSize : ℕ
 curveSize = 4400
 
-unfoldable pub sizesFit : World → Bool
+unfoldable pub sizesFit : Blocks → Bool
 sizesFit w =
     eqb (length (w .near)) pointsSize && (eqb (length (w .far)) pointsSize && (eqb (length (w .slots)) slotsSize && (eqb (length (w .daily)) dailySize
     && (eqb (length (w .readings)) readingsSize && eqb (length (w .curve)) curveSize))))
@@ -50,15 +50,15 @@ abbrev pub letterOfKind : Kind → ℕ
 letterOfKind real = 82
 letterOfKind corrected = 67
 letterOfKind estimated = 69
-letterOfKind strange = 0
+letterOfKind noKind = 0
 
 -- at position 0, count 0, kind E
 abbrev pub freshReading : Reading
 freshReading = reading 0 0 estimated
 
 -- points and curve missing, profiles and daily sums 0
-unfoldable pub freshWorld : World
-freshWorld = record {
+unfoldable pub freshBlocks : Blocks
+freshBlocks = record {
   near = replicate pointsSize missingPoint;
   far = replicate pointsSize missingPoint;
   slots = replicate slotsSize 0;
@@ -67,7 +67,7 @@ freshWorld = record {
   curve = replicate curveSize missingEntry;
 }
 
--- ---- a missing point, and one that is there
+-- ---- a missing point, and one that is present
 unfoldable pub codeOfPoint : Option ℕ → ℕ
 codeOfPoint p = orElse p missingPoint
 
@@ -94,10 +94,10 @@ unfoldable pub slotAt : ℕ → ℕ → ℕ
 slotAt w h = 20 * w + h
 
 -- the point's code at a year, winter place and half-hour
-unfoldable pub codeAt : ℕ → World → ℕ → ℕ → ℕ → ℕ
+unfoldable pub codeAt : ℕ → Blocks → ℕ → ℕ → ℕ → ℕ
 codeAt al b y w h =
     cond (isNear al y) (getD (b .near) (nearStart al y + slotAt w h) missingPoint) (getD (b .far) (farStart al y + slotAt w h) missingPoint)
 
 -- the first n readings
-unfoldable pub readingsOf : World → ℕ → List Reading
+unfoldable pub readingsOf : Blocks → ℕ → List Reading
 readingsOf b n = tab n 0 (λ i. getD (b .readings) i freshReading)

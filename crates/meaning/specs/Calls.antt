@@ -3,7 +3,6 @@ use mathlib.Core.Bool.{_&&_, not, cond}
 use mathlib.Core.List.{List}
 use mathlib.Core.Option.{Option, some, none}
 use Prim.Native.Nat.{ℕ, _+_, _-_}
-use lib.Dec.{eqb}
 use lib.ListN.{set, getD}
 use lib.Seq.{sets}
 use Rattle.lists.specs.Lists.{tab}
@@ -14,35 +13,35 @@ use Rattle.meaning.specs.Filing.{Reading, reading}
 use Rattle.meaning.specs.Line.{Line, Tag, S, C, X, D, P, B, R, rank, is, tagOf, numberAt, yearOn, monthOn, dayOn, siteOn, valueAt, pointOf, kindOf, keyOf, winterOn}
 use Rattle.meaning.specs.Refusals.{Reason, numberOf, refusal}
 use Rattle.meaning.specs.Level.{Report, reportOf, curveOf}
-use Rattle.meaning.specs.Closing.{Lack, lackNumber, closingRefusal}
-use Rattle.meaning.specs.Blocks.{World, sizesFit, freshWorld, codeOfPoint, isNear, nearStart, farStart, slotsStart, slotAt}
-use Rattle.meaning.specs.Record.{Rec, Lasts, Tallies, inState, freshRec, historyOfRec, axisOfRec, recFits, contentsFit, beforeOf, filingOf}
+use Rattle.meaning.specs.Closing.{CloseReason, closeNumber, closingRefusal}
+use Rattle.meaning.specs.Blocks.{Blocks, sizesFit, freshBlocks, codeOfPoint, isNear, nearStart, farStart, slotsStart, slotAt}
+use Rattle.meaning.specs.Record.{refusedState, closedState, isOpen, Rec, LastDates, Tallies, inState, freshRec, historyOfRec, axisOfRec, recFits, contentsFit, beforeOf, filingOf}
 
 -- ---- answers: a refusal has document 01's number and the count of lines
 pub data Answer : Type 0 where
-  took : Answer
+  accepted : Answer
   refused : ℕ → ℕ → Answer
-  reports : Report → Answer
+  reported : Report → Answer
 
 pub record Out : Type 0 where
   pub answer : Answer
   pub after : Rec
-  pub world : World
+  pub blocks : Blocks
 
-abbrev pub out : Answer → Rec → World → Out
-out a s w = record { answer = a; after = s; world = w }
+abbrev pub out : Answer → Rec → Blocks → Out
+out a s w = record { answer = a; after = s; blocks = w }
 
 -- 1 and 13: record and blocks stay, and the count is the record's
-unfoldable pub leaves : ℕ → Rec → World → Out
+unfoldable pub leaves : ℕ → Rec → Blocks → Out
 leaves n s w = out (refused n (s .count)) s w
 
 -- ---- opening: always allowed where the blocks have their sizes
-unfoldable pub openingOf : Rec → World → Out
-openingOf s w = cond (sizesFit w) (out took freshRec freshWorld) (leaves 1 s w)
+unfoldable pub openingOf : Rec → Blocks → Out
+openingOf s w = cond (sizesFit w) (out accepted freshRec freshBlocks) (leaves 1 s w)
 
 -- ---- what an accepted line changes in the record
-unfoldable pub lastsAfter : Tag → Line → Lasts → Lasts
-lastsAfter t l k = record {
+unfoldable pub lastDatesAfter : Tag → Line → LastDates → LastDates
+lastDatesAfter t l k = record {
   c = cond (is C t) (keyOf C l) (k .c);
   x = cond (is X t) (keyOf X l) (k .x);
   d = cond (is D t) (keyOf D l) (k .d);
@@ -71,7 +70,7 @@ recAfter t l s = record {
   site = cond (is S t) (siteOn l) (s .site);
   readings = cond (is X t) (s .readings + 1) (s .readings);
   lastIndex = cond (is X t) (numberAt l 4) (s .lastIndex);
-  lasts = lastsAfter t l (s .lasts);
+  lasts = lastDatesAfter t l (s .lasts);
   tallies = talliesAfter (historyOfRec s) (axisOfRec s) t l (s .tallies);
 }
 
@@ -89,8 +88,8 @@ positionOn axis l = positionOf axis (yearOn l) (monthOn l) (dayOn l)
 unfoldable pub readingAt : Years → Line → Reading
 readingAt axis l = reading (positionOn axis l) (numberAt l 4) (kindOf (fieldAt l 5))
 
-unfoldable pub worldAfter : Tag → Line → Rec → World → World
-worldAfter t l s w = record {
+unfoldable pub blocksAfter : Tag → Line → Rec → Blocks → Blocks
+blocksAfter t l s w = record {
   near =
       cond (is C t && isNear (s .site .al) (yearOn l))
       (sets (w .near) (nearStart (s .site .al) (yearOn l) + slotAt (winterOn l) 0) (pointCodes l))
@@ -106,16 +105,16 @@ worldAfter t l s w = record {
 }
 
 -- ---- line: 1, 13, then 2 to 12; a refusal by these marks the record refused and counts the line
-unfoldable pub judged : Option Reason → Rec → Line → World → Out
-judged none s l w = out took (recAfter (tagOf l) l s) (worldAfter (tagOf l) l s w)
-judged (some y) s l w = out (refused (numberOf y) (s .count + 1)) (inState 2 (s .count + 1) s) w
+unfoldable pub lineBy : Option Reason → Rec → Line → Blocks → Out
+lineBy none s l w = out accepted (recAfter (tagOf l) l s) (blocksAfter (tagOf l) l s w)
+lineBy (some y) s l w = out (refused (numberOf y) (s .count + 1)) (inState refusedState (s .count + 1) s) w
 
-unfoldable pub lineOf : Rec → Line → World → Out
+unfoldable pub lineOf : Rec → Line → Blocks → Out
 lineOf s l w =
-    cond (sizesFit w && recFits s) (cond (eqb (s .state) 1) (judged (refusal (beforeOf s) l) s l w) (leaves 13 s w)) (leaves 1 s w)
+    cond (sizesFit w && recFits s) (cond (isOpen (s .state)) (lineBy (refusal (beforeOf s) l) s l w) (leaves 13 s w)) (leaves 1 s w)
 
 -- ---- close: 1 with the blocks' contents, 13, then 14 to 18; else the curve is set and the record closed
-unfoldable pub withCurve : World → List ℕ → World
+unfoldable pub withCurve : Blocks → List ℕ → Blocks
 withCurve w c = record {
   near = w .near;
   far = w .far;
@@ -125,12 +124,12 @@ withCurve w c = record {
   curve = c;
 }
 
-unfoldable pub closed : Option Lack → Rec → World → Out
-closed none s w = out (reports (reportOf (filingOf s w))) (inState 3 (s .count) s) (withCurve w (curveOf (filingOf s w)))
-closed (some k) s w = out (refused (lackNumber k) (s .count)) (inState 2 (s .count) s) w
+unfoldable pub closeBy : Option CloseReason → Rec → Blocks → Out
+closeBy none s w = out (reported (reportOf (filingOf s w))) (inState closedState (s .count) s) (withCurve w (curveOf (filingOf s w)))
+closeBy (some k) s w = out (refused (closeNumber k) (s .count)) (inState refusedState (s .count) s) w
 
-unfoldable pub closeOf : Rec → World → Out
+unfoldable pub closeOf : Rec → Blocks → Out
 closeOf s w =
     cond (sizesFit w && (recFits s && contentsFit s w))
-    (cond (eqb (s .state) 1) (closed (closingRefusal (filingOf s w)) s w) (leaves 13 s w))
+    (cond (isOpen (s .state)) (closeBy (closingRefusal (filingOf s w)) s w) (leaves 13 s w))
     (leaves 1 s w)

@@ -10,7 +10,7 @@ use Rattle.meaning.specs.Validity.{curveValid, indexValid}
 pub data Case : Type 0 where
   caseM case1 case2 case3 case4 caseP case5 case6 : Case
 
--- a year's two marks: its curve is valid, its index is valid
+-- the validity of a year: of its curve, of its index
 pub record Mark : Type 0 where
   pub curve : Bool
   pub index : Bool
@@ -18,7 +18,7 @@ pub record Mark : Type 0 where
 abbrev pub mark : Bool → Bool → Mark
 mark c i = record { curve = c; index = i }
 
--- T files: the year's curve, its index, some year's curve, some year's index
+-- T files, by the first that is valid: the year's curve, its index, some year's curve, some year's index
 unfoldable pub curveCase : Mark → Bool → Bool → Case
 curveCase m someCurve someIndex = cond (m .curve) caseM (cond (m .index) case1 (cond someCurve case2 (cond someIndex case3 case4)))
 
@@ -26,7 +26,7 @@ curveCase m someCurve someIndex = cond (m .curve) caseM (cond (m .index) case1 (
 unfoldable pub indexCase : Mark → Bool → Case
 indexCase m someIndex = cond (m .index) caseP (cond someIndex case5 case6)
 
--- the case of a year by the meter and the marks of all years
+-- the case of a year by the meter and the validity of all years
 unfoldable pub caseBy : Meter → List Mark → Mark → Case
 caseBy curveMeter marks m = curveCase m (any (λ k. k .curve) marks) (any (λ k. k .index) marks)
 caseBy indexMeter marks m = indexCase m (any (λ k. k .index) marks)

@@ -5,29 +5,23 @@ use mathlib.Core.Option.{Option, some}
 use Prim.Native.Nat.{ℕ}
 use lib.Dec.{eqb}
 use Rattle.lists.specs.Lists.{any, firstOf}
-use Rattle.calendar.specs.Dates.{leap}
+use Rattle.calendar.specs.Dates.{allWinterDates, allDates}
 use Rattle.meaning.specs.Filing.{Filing, historyList, axisOf, yearsIn}
 use Rattle.meaning.specs.Validity.{Interval, intervals, overlapsWinter, touches, totalOf, indexValid}
 use Rattle.meaning.specs.Cases.{caseOf, isDefault}
-use Rattle.meaning.specs.Points.{Place, sourceExceeds, allPlaces}
+use Rattle.meaning.specs.Points.{CurvePlace, sourceExceeds, allPlaces}
 
-pub data Lack : Type 0 where
-  unended partial lacking zeroTotal tooHigh : Lack
+pub data CloseReason : Type 0 where
+  noEnd partial noData zeroTotal tooHigh : CloseReason
 
-unfoldable pub lackNumber : Lack → ℕ
-lackNumber unended = 14
-lackNumber partial = 15
-lackNumber lacking = 16
-lackNumber zeroTotal = 17
-lackNumber tooHigh = 18
+unfoldable pub closeNumber : CloseReason → ℕ
+closeNumber noEnd = 14
+closeNumber partial = 15
+closeNumber noData = 16
+closeNumber zeroTotal = 17
+closeNumber tooHigh = 18
 
 -- ---- 15: some but not all of its dates
-unfoldable pub allWinterDates : ℕ → ℕ
-allWinterDates y = cond (leap y) 152 151
-
-unfoldable pub allDates : ℕ → ℕ
-allDates y = cond (leap y) 366 365
-
 unfoldable pub isPartial : ℕ → ℕ → Bool
 isPartial n full = not (eqb n 0) && not (eqb n full)
 
@@ -41,17 +35,17 @@ lacksProfile F y = (indexValid F y || isDefault (caseOf F y)) && eqb (F .profile
 unfoldable pub lacksDaily : Filing → Interval → Bool
 lacksDaily F v = any (λ z. eqb (F .dailyDates z) 0 && touches F z v) (yearsIn (axisOf F))
 
-unfoldable pub lacks : Lack → Filing → Bool
-lacks unended F = not (F .ended)
-lacks partial F =
+unfoldable pub closeHolds : CloseReason → Filing → Bool
+closeHolds noEnd F = not (F .ended)
+closeHolds partial F =
     any (λ y. isPartial (F .profileDates y) (allWinterDates y)) (historyList F)
     || any (λ z. isPartial (F .dailyDates z) (allDates z)) (yearsIn (axisOf F))
-lacks lacking F = any (lacksProfile F) (historyList F) || someWinterInterval F (lacksDaily F)
-lacks zeroTotal F = someWinterInterval F (λ v. eqb (totalOf F v) 0)
-lacks tooHigh F = any (λ (q : Place). sourceExceeds (q .source)) (allPlaces F)
+closeHolds noData F = any (lacksProfile F) (historyList F) || someWinterInterval F (lacksDaily F)
+closeHolds zeroTotal F = someWinterInterval F (λ v. eqb (totalOf F v) 0)
+closeHolds tooHigh F = any (λ (q : CurvePlace). sourceExceeds (q .source)) (allPlaces F)
 
-unfoldable pub lackOrder : List Lack
-lackOrder = unended ∷ partial ∷ lacking ∷ zeroTotal ∷ tooHigh ∷ []
+unfoldable pub closeOrder : List CloseReason
+closeOrder = noEnd ∷ partial ∷ noData ∷ zeroTotal ∷ tooHigh ∷ []
 
-unfoldable pub closingRefusal : Filing → Option Lack
-closingRefusal F = firstOf (λ k. lacks k F) lackOrder
+unfoldable pub closingRefusal : Filing → Option CloseReason
+closingRefusal F = firstOf (λ k. closeHolds k F) closeOrder

@@ -1,4 +1,4 @@
--- What the lines of a file say, from the lines alone: what a line is judged by, and the filing (document 01, What demand 3 compares).
+-- What the lines of a file say, from the lines alone: what a line is checked against, and the filing (document 01, What demand 3 compares).
 use mathlib.Core.Bool.{Bool, true, false, _&&_, _||_, not, cond}
 use mathlib.Core.List.{List, [], _∷_, map}
 use mathlib.Core.Option.{Option, some, none}
@@ -25,23 +25,23 @@ unfoldable pub axisIn : List Line → Years
 axisIn ls = axisYears (historyIn ls)
 
 -- ---- a line among the lines before it
--- 4: a line of tag k stops any later one of tag t that stands before k in file order, a second S, and all after E
-unfoldable pub stops : Tag → Tag → Bool
-stops k t = ltb (rank t) (rank k) || (is S t || is E k)
+-- 4: a line of tag k rules out any later one of tag t that stands before k in file order, a second S, and all after E
+unfoldable pub rulesOut : Tag → Tag → Bool
+rulesOut k t = ltb (rank t) (rank k) || (is S t || is E k)
 
 abbrev pub isIndexMeter : Meter → Bool
 isIndexMeter noMeter = false
 isIndexMeter curveMeter = false
 isIndexMeter indexMeter = true
 
--- the first line is S; after that some line stops it, or it is C in an I file
-unfoldable pub barredIn : List Line → Tag → Bool
-barredIn [] t = not (is S t)
-barredIn (k ∷ ls) t = any (λ (m : Line). stops (tagOf m) t) (k ∷ ls) || (is C t && isIndexMeter (siteIn (k ∷ ls) .meter))
+-- any first line but S; after that a line that some line rules out, or C in an I file
+unfoldable pub misplacedIn : List Line → Tag → Bool
+misplacedIn [] t = not (is S t)
+misplacedIn (k ∷ ls) t = any (λ (m : Line). rulesOut (tagOf m) t) (k ∷ ls) || (is C t && isIndexMeter (siteIn (k ∷ ls) .meter))
 
 -- 8: an earlier line of its tag is not earlier in date
-unfoldable pub reachedIn : List Line → Tag → ℕ → Bool
-reachedIn ls t k = isRising t && any (λ (m : Line). is t (tagOf m) && leb k (keyOf t m)) ls
+unfoldable pub notLaterIn : List Line → Tag → ℕ → Bool
+notLaterIn ls t k = isRising t && any (λ (m : Line). is t (tagOf m) && leb k (keyOf t m)) ls
 
 -- 10: the index before
 unfoldable pub lastIndexIn : List Line → ℕ
@@ -49,9 +49,9 @@ lastIndexIn ls = orElse (latest (λ (l : Line). cond (is X (tagOf l)) (some (num
 
 unfoldable pub beforeIn : List Line → Before
 beforeIn ls = record {
-  barred = barredIn ls;
+  misplaced = misplacedIn ls;
   history = historyIn ls;
-  reached = reachedIn ls;
+  notLater = notLaterIn ls;
   lastIndex = lastIndexIn ls;
   readings = count (λ (l : Line). is X (tagOf l)) ls;
   lines = length ls;

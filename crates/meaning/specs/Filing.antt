@@ -26,13 +26,13 @@ noSite = site 0 0 noMeter 0
 
 -- R real, C corrected, E estimated
 pub data Kind : Type 0 where
-  real corrected estimated strange : Kind
+  real corrected estimated noKind : Kind
 
 abbrev pub isTrusted : Kind → Bool
 isTrusted real = true
 isTrusted corrected = true
 isTrusted estimated = false
-isTrusted strange = false
+isTrusted noKind = false
 
 -- a reading at 00:00 of the day at a position on the axis, in Wh
 pub record Reading : Type 0 where

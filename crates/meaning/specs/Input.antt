@@ -1,4 +1,4 @@
--- The lines of an input: parted by byte 10, which a last one may lack (document 01, The printed sheet).
+-- The lines of an input: separated by byte 10, which may be missing after the last one (document 01, The printed sheet).
 use mathlib.Core.Bool.{cond}
 use mathlib.Core.List.{List, [], _∷_}
 use Prim.Native.Nat.{ℕ}

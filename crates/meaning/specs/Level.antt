@@ -11,10 +11,10 @@ use Rattle.note.specs.Coefficients.{coefficientC}
 use Rattle.rounding.specs.Points.{rounded, level}
 use Rattle.meaning.specs.Filing.{Filing, historyOf, historyList}
 use Rattle.meaning.specs.Cases.{Case, caseOf}
-use Rattle.meaning.specs.Points.{Place, placeOf, yearPlaces, allPlaces, pointAt, appliedRate}
+use Rattle.meaning.specs.Points.{CurvePlace, placeOf, yearPlaces, allPlaces, pointAt, appliedRate}
 
--- the points that are there, in mW
-unfoldable pub pointsIn : List Place → List ℕ
+-- the points that are present, in mW
+unfoldable pub pointsIn : List CurvePlace → List ℕ
 pointsIn qs = present (map pointAt qs)
 
 -- points present in a year, and in all

@@ -13,4 +13,4 @@ pub mod Calls
 pub mod Sheet
 pub mod Input
 pub mod Text
-pub mod Words
+pub mod Restated

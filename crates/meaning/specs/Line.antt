@@ -11,7 +11,7 @@ use Rattle.calendar.specs.Places.{datePlace, winterPlace}
 use Rattle.calendar.specs.Spans.{axisYears, among}
 use Rattle.text.specs.Fields.{upTo, past, fieldAt, reads, edition as editionText}
 use Rattle.text.specs.Numbers.{isNumber, valueOf, isDash}
-use Rattle.meaning.specs.Filing.{Meter, noMeter, curveMeter, indexMeter, Site, site, Kind, real, corrected, estimated, strange}
+use Rattle.meaning.specs.Filing.{Meter, noMeter, curveMeter, indexMeter, Site, site, Kind, real, corrected, estimated, noKind}
 
 -- bytes, without the byte 10 that ends it
 abbrev pub Line : Type 0
@@ -116,18 +116,18 @@ isMeter indexMeter = true
 
 -- R real, C corrected, E estimated
 unfoldable pub kindOfLetter : ℕ → Kind
-kindOfLetter b = cond (eqb b 82) real (cond (eqb b 67) corrected (cond (eqb b 69) estimated strange))
+kindOfLetter b = cond (eqb b 82) real (cond (eqb b 67) corrected (cond (eqb b 69) estimated noKind))
 
 unfoldable pub kindOf : List ℕ → Kind
-kindOf [] = strange
+kindOf [] = noKind
 kindOf (b ∷ []) = kindOfLetter b
-kindOf (b ∷ c ∷ f) = strange
+kindOf (b ∷ c ∷ f) = noKind
 
 abbrev pub isKind : Kind → Bool
 isKind real = true
 isKind corrected = true
 isKind estimated = true
-isKind strange = false
+isKind noKind = false
 
 -- 5: whether a field is in its form
 unfoldable pub inForm : Form → List ℕ → Bool

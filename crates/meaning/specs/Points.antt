@@ -13,7 +13,7 @@ use Rattle.meaning.specs.Filing.{Filing, historyList, axisOf}
 use Rattle.meaning.specs.Validity.{Interval, intervals, hasDay, energyOf, totalOf, curveValid, indexValid, halfHours}
 use Rattle.meaning.specs.Cases.{Case, caseM, case1, case2, case3, case4, caseP, case5, case6, caseOf}
 
--- a point of a year of its own: as read, in W, or profiled from E, the profile value and the interval's daily sums
+-- a point from its own year: as read, in W, or profiled from E, the profile value and the interval's daily sums
 pub data Origin : Type 0 where
   asRead : ℕ → Origin
   byProfile : ℕ → ℕ → ℕ → Origin
@@ -122,13 +122,13 @@ donorCas ds = sum (map (λ (d : Donor). d .ca) ds)
 unfoldable pub donorPoints : List Donor → ℕ
 donorPoints ds = sum (map (λ (d : Donor). roundedOrigin (d .origin)) ds)
 
-unfoldable pub meant : Source → Option ℕ
-meant missing = none
-meant (own o) = some (roundedOrigin o)
-meant (fromDonors ca ds) = some (rounded (rebuilt ca (donorPoints ds) (donorCas ds)))
-meant (fromDefault ps th p ca n cas) = some (rounded (byDefault ps th p ca n cas))
+unfoldable pub roundedPoint : Source → Option ℕ
+roundedPoint missing = none
+roundedPoint (own o) = some (roundedOrigin o)
+roundedPoint (fromDonors ca ds) = some (rounded (rebuilt ca (donorPoints ds) (donorCas ds)))
+roundedPoint (fromDefault ps th p ca n cas) = some (rounded (byDefault ps th p ca n cas))
 
--- ---- 18: what exceeds 200,000,000,000 mW; measured points are never looked at
+-- ---- 18: what exceeds 200,000,000,000 mW; measured points are never checked
 unfoldable pub originExceeds : Origin → Bool
 originExceeds (asRead w) = false
 originExceeds (byProfile e p t) = exceeds (roundedOrigin (byProfile e p t))
@@ -149,18 +149,18 @@ withRate none p = p
 withRate (some r) p = rounded (rated p r)
 
 -- ---- the places of the curve: rate and source of each peak point
-pub record Place : Type 0 where
+pub record CurvePlace : Type 0 where
   pub rate : Option ℕ
   pub source : Source
 
-unfoldable pub placeOf : Filing → ℕ → ℕ → ℕ → Place
+unfoldable pub placeOf : Filing → ℕ → ℕ → ℕ → CurvePlace
 placeOf F y w h = record { rate = appliedRate F y; source = sourceAt F y w h }
 
 -- a year's peak points, by day and half-hour
-unfoldable pub yearPlaces : Filing → ℕ → List Place
+unfoldable pub yearPlaces : Filing → ℕ → List CurvePlace
 yearPlaces F y = flat (map (λ w. tab halfHours 0 (placeOf F y w)) (peakDays y))
 
-unfoldable pub allPlaces : Filing → List Place
+unfoldable pub allPlaces : Filing → List CurvePlace
 allPlaces F = flat (map (yearPlaces F) (historyList F))
 
 -- the point after its rate, in mW
@@ -168,5 +168,5 @@ unfoldable pub ratedBy : Option ℕ → Option ℕ → Option ℕ
 ratedBy r none = none
 ratedBy r (some p) = some (withRate r p)
 
-unfoldable pub pointAt : Place → Option ℕ
-pointAt q = ratedBy (q .rate) (meant (q .source))
+unfoldable pub pointAt : CurvePlace → Option ℕ
+pointAt q = ratedBy (q .rate) (roundedPoint (q .source))

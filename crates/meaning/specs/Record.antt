@@ -7,7 +7,7 @@ use lib.Dec.{eqb, leb, ltb}
 use lib.ListN.{getD, replicate}
 use Rattle.lists.specs.Lists.{all, allAt, neighbours}
 use Rattle.calendar.specs.declared.Years.{Years}
-use Rattle.calendar.specs.Dates.{isWinter}
+use Rattle.calendar.specs.Dates.{isWinter, allWinterDates, allDates}
 use Rattle.calendar.specs.Places.{hasDate, hasWinterDate, monthOf}
 use Rattle.calendar.specs.Spans.{among, historyYears, axisYears, yearAt, placeAt}
 use Rattle.note.specs.Coefficients.{caOf}
@@ -15,12 +15,24 @@ use Rattle.meaning.specs.Filing.{Meter, Site, noSite, Reading, Kind, Fil
 use Rattle.meaning.specs.Line.{Tag, S, C, X, D, P, B, R, E, other, rank, is, isMeter, isKind, mostPower, mostIndex, mostProfile, mostDaily}
 use Rattle.meaning.specs.Refusals.{Before, isTooSoon, mostReadings}
 use Rattle.meaning.specs.File.{isIndexMeter}
-use Rattle.meaning.specs.Closing.{allWinterDates, allDates}
-use Rattle.meaning.specs.Blocks.{World, missingPoint, rowSize, pointOfCode, codeAt, slotsStart, slotAt, readingsOf}
+use Rattle.meaning.specs.Blocks.{Blocks, missingPoint, rowSize, pointOfCode, codeAt, slotsStart, slotAt, readingsOf}
 
 -- ---- fields
+-- an opening opens the record; a refused line or close marks it refused, a close that reports marks it closed
+pub data State : Type 0 where
+  unopened : State
+  openState : State
+  refusedState : State
+  closedState : State
+
+abbrev pub isOpen : State → Bool
+isOpen unopened = false
+isOpen openState = true
+isOpen refusedState = false
+isOpen closedState = false
+
 -- the last date of C, X, D, P as dateKey has it, the last year of B, R; 0 for none
-pub record Lasts : Type 0 where
+pub record LastDates : Type 0 where
   pub c : ℕ
   pub x : ℕ
   pub d : ℕ
@@ -28,7 +40,7 @@ pub record Lasts : Type 0 where
   pub b : ℕ
   pub r : ℕ
 
-abbrev pub lastOf : Lasts → Tag → ℕ
+abbrev pub lastOf : LastDates → Tag → ℕ
 lastOf k S = 0
 lastOf k C = k .c
 lastOf k X = k .x
@@ -47,8 +59,7 @@ pub record Tallies : Type 0 where
   pub rates : List ℕ
 
 pub record Rec : Type 0 where
-  -- 0 never opened, 1 open, 2 refused, 3 closed
-  pub state : ℕ
+  pub state : State
   -- lines taken so far
   pub count : ℕ
   -- the rank of the last tag, 0 for none
@@ -56,15 +67,15 @@ pub record Rec : Type 0 where
   pub site : Site
   pub readings : ℕ
   pub lastIndex : ℕ
-  pub lasts : Lasts
+  pub lasts : LastDates
   pub tallies : Tallies
 
 -- a record in another state and with another count
-unfoldable pub inState : ℕ → ℕ → Rec → Rec
+unfoldable pub inState : State → ℕ → Rec → Rec
 inState st n s =
     record { state = st; count = n; last = s .last; site = s .site; readings = s .readings; lastIndex = s .lastIndex; lasts = s .lasts; tallies = s .tallies }
 
-unfoldable pub emptyRec : ℕ → Rec
+unfoldable pub emptyRec : State → Rec
 emptyRec st = record {
   state = st;
   count = 0;
@@ -77,10 +88,10 @@ emptyRec st = record {
 }
 
 unfoldable pub neverOpened : Rec
-neverOpened = emptyRec 0
+neverOpened = emptyRec unopened
 
 unfoldable pub freshRec : Rec
-freshRec = emptyRec 1
+freshRec = emptyRec openState
 
 -- ---- spans: no year until S is taken, whatever AL holds
 unfoldable pub isTaken : Rec → Bool
@@ -123,8 +134,8 @@ dateFits span winter k =
 unfoldable pub yearFits : Years → ℕ → Bool
 yearFits span k = eqb k 0 || among span k
 
-unfoldable pub lastsFit : Years → Lasts → Bool
-lastsFit h k =
+unfoldable pub lastDatesFit : Years → LastDates → Bool
+lastDatesFit h k =
     dateFits h true (k .c) && (dateFits (axisYears h) false (k .x) && (dateFits (axisYears h) false (k .d)
     && (dateFits h true (k .p) && (yearFits h (k .b) && yearFits h (k .r)))))
 
@@ -141,10 +152,10 @@ talliesFit h t =
 -- 1: every number within its field's range, and AL and filière do not meet 9
 unfoldable pub recFits : Rec → Bool
 recFits s =
-    (leb (s .state) 3 && (leb (s .count) 9999 && leb (s .last) 8))
+    (leb (s .count) 9999 && leb (s .last) 8)
     && ((siteFits (isTaken s) (s .site) && not (isTooSoon (s .site .al) (s .site .filiere)))
     && ((leb (s .readings) mostReadings && leb (s .lastIndex) mostIndex)
-    && (lastsFit (historyOfRec s) (s .lasts) && talliesFit (historyOfRec s) (s .tallies))))
+    && (lastDatesFit (historyOfRec s) (s .lasts) && talliesFit (historyOfRec s) (s .tallies))))
 
 -- ---- 1 at the close: what the blocks hold
 unfoldable pub isDated : Years → ℕ → ℕ → Bool
@@ -173,37 +184,37 @@ unfoldable pub readingsFit : Years → List Reading → Bool
 readingsFit axis rs =
     all (readingFits axis) rs && all (λ (p : Reading × Reading). ltb (p .0 .position) (p .1 .position) && leb (p .0 .index) (p .1 .index)) (neighbours rs)
 
-unfoldable pub contentsFit : Rec → World → Bool
+unfoldable pub contentsFit : Rec → Blocks → Bool
 contentsFit s w =
     (pointsFit (historyOfRec s) (s .site .al - 9) (w .near) && pointsFit (historyOfRec s) (s .site .al - 14) (w .far))
     && ((slotsFit (historyOfRec s) (w .slots) && dailyFits (axisOfRec s) (w .daily)) && readingsFit (axisOfRec s) (readingsOf w (s .readings)))
 
--- ---- what a line is judged by, as the record has it
-unfoldable pub barredBy : ℕ → Meter → Tag → Bool
-barredBy zero m t = not (is S t)
-barredBy (suc n) m t = (ltb (rank t) (suc n) || (is S t || eqb 8 (suc n))) || (is C t && isIndexMeter m)
+-- ---- what a line is checked against, as the record has it
+unfoldable pub misplacedBy : ℕ → Meter → Tag → Bool
+misplacedBy zero m t = not (is S t)
+misplacedBy (suc n) m t = (ltb (rank t) (suc n) || (is S t || eqb 8 (suc n))) || (is C t && isIndexMeter m)
 
-unfoldable pub reachedBy : Lasts → Tag → ℕ → Bool
-reachedBy k t d = not (eqb (lastOf k t) 0) && leb d (lastOf k t)
+unfoldable pub notLaterBy : LastDates → Tag → ℕ → Bool
+notLaterBy k t d = not (eqb (lastOf k t) 0) && leb d (lastOf k t)
 
 unfoldable pub beforeOf : Rec → Before
 beforeOf s = record {
-  barred = barredBy (s .last) (s .site .meter);
+  misplaced = misplacedBy (s .last) (s .site .meter);
   history = historyOfRec s;
-  reached = reachedBy (s .lasts);
+  notLater = notLaterBy (s .lasts);
   lastIndex = s .lastIndex;
   readings = s .readings;
   lines = s .count;
 }
 
 -- ---- the filing that record and blocks hold
-unfoldable pub pointHeld : Site → World → ℕ → ℕ → ℕ → Option ℕ
+unfoldable pub pointHeld : Site → Blocks → ℕ → ℕ → ℕ → Option ℕ
 pointHeld t b y w h = cond (among (historyOfSite t) y && (ltb w 152 && ltb h 20)) (pointOfCode (codeAt (t .al) b y w h)) none
 
-unfoldable pub profileHeld : Years → World → ℕ → ℕ → ℕ → ℕ
+unfoldable pub profileHeld : Years → Blocks → ℕ → ℕ → ℕ → ℕ
 profileHeld span b y w h = cond (among span y && (ltb w 152 && ltb h 20)) (getD (b .slots) (slotsStart (span .first) y + slotAt w h) 0) 0
 
-unfoldable pub dailyHeld : Years → World → ℕ → ℕ → ℕ
+unfoldable pub dailyHeld : Years → Blocks → ℕ → ℕ → ℕ
 dailyHeld axis b y p = cond (among axis y && ltb p 366) (getD (b .daily) (366 * (y - axis .first) + p) 0) 0
 
 -- a year's number in a list by year
@@ -214,7 +225,7 @@ unfoldable pub rateOfCode : ℕ → Option ℕ
 rateOfCode n = cond (eqb n 0) none (some n)
 
 -- of a site, the number of readings, the tallies, whether E was taken, and the blocks
-unfoldable pub filingHeld : Site → ℕ → Tallies → Bool → World → Filing
+unfoldable pub filingHeld : Site → ℕ → Tallies → Bool → Blocks → Filing
 filingHeld t n k e b = record {
   site = t;
   point = pointHeld t b;
@@ -229,5 +240,5 @@ filingHeld t n k e b = record {
   ca = λ y. caOf y (t .filiere);
 }
 
-unfoldable pub filingOf : Rec → World → Filing
+unfoldable pub filingOf : Rec → Blocks → Filing
 filingOf s b = filingHeld (siteOfRec s) (s .readings) (s .tallies) (eqb (s .last) 8) b

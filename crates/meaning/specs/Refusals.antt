@@ -8,17 +8,17 @@ use lib.ListN.{length}
 use Rattle.lists.specs.Lists.{any, firstOf}
 use Rattle.calendar.specs.declared.Years.{Years}
 use Rattle.calendar.specs.Dates.{isDate, isWinter}
-use Rattle.text.specs.Fields.{past, tabs, isStrange}
+use Rattle.text.specs.Fields.{past, tabs, isInvalid}
 use Rattle.meaning.specs.Line.{Line, Tag, S, X, E, is, tagOf, size, formsOf, inForm, inRange, someField, numberAt, yearOn, monthOn, dayOn, siteOn, hasDateOn, isWinterTag, keyOf}
 
--- what a line is judged by besides itself
+-- what a line is checked against besides itself
 pub record Before : Type 0 where
   -- 4: no line of this tag may come now
-  pub barred : Tag → Bool
+  pub misplaced : Tag → Bool
   -- 6: the history years that S gives
   pub history : Years
   -- 8: a line of this tag, whose dates or years rise, has this one or a later one
-  pub reached : Tag → ℕ → Bool
+  pub notLater : Tag → ℕ → Bool
   -- 10: the index of the last reading, 0 before any
   pub lastIndex : ℕ
   -- 11: how many readings
@@ -50,9 +50,9 @@ abbrev pub mostReadings : ℕ
 mostReadings = 600
 
 -- ---- the conditions that a line meets by itself
--- 2: empty, over 320 bytes, or with a strange byte
+-- 2: empty, over 320 bytes, or with an invalid byte
 unfoldable pub isIllegible : Line → Bool
-isIllegible l = eqb (length l) 0 || (ltb 320 (length l) || any isStrange l)
+isIllegible l = eqb (length l) 0 || (ltb 320 (length l) || any isInvalid l)
 
 -- 3: unknown tag or wrong field count
 unfoldable pub isUnknown : Line → Bool
@@ -74,11 +74,11 @@ hasNoDate l =
 unfoldable pub holds : Reason → Before → Line → Bool
 holds illegible b l = isIllegible l
 holds unknown b l = isUnknown l
-holds misplaced b l = b .barred (tagOf l)
+holds misplaced b l = b .misplaced (tagOf l)
 holds malformed b l = isMalformed l
 holds outside b l = isOutside (b .history) l
 holds noDate b l = hasNoDate l
-holds notLater b l = b .reached (tagOf l) (keyOf (tagOf l) l)
+holds notLater b l = b .notLater (tagOf l) (keyOf (tagOf l) l)
 holds tooSoon b l = is S (tagOf l) && isTooSoon (siteOn l .al) (siteOn l .filiere)
 holds falling b l = is X (tagOf l) && ltb (numberAt l 4) (b .lastIndex)
 holds tooMany b l = is X (tagOf l) && leb mostReadings (b .readings)

@@ -8,12 +8,12 @@ use Rattle.meaning.specs.Line.{Line}
 use Rattle.meaning.specs.Refusals.{Reason, numberOf}
 use Rattle.meaning.specs.File.{refusalAt, filingIn}
 use Rattle.meaning.specs.Level.{Report, reportOf, curveOf, missingEntry}
-use Rattle.meaning.specs.Closing.{Lack, lackNumber, closingRefusal}
+use Rattle.meaning.specs.Closing.{CloseReason, closeNumber, closingRefusal}
 use Rattle.meaning.specs.Blocks.{curveSize}
 
 -- a refusal's number and count, or a level with its cases and counts; and the curve that is left
 pub data Sheet : Type 0 where
-  stopped : ℕ → ℕ → Sheet
+  refusedSheet : ℕ → ℕ → Sheet
   level : Report → Sheet
 
 pub record Outcome : Type 0 where
@@ -23,20 +23,20 @@ pub record Outcome : Type 0 where
 unfoldable pub noCurve : List ℕ
 noCurve = replicate curveSize missingEntry
 
-unfoldable pub stoppedAt : ℕ → ℕ → Outcome
-stoppedAt n c = record { sheet = stopped n c; curve = noCurve }
+unfoldable pub refusedAt : ℕ → ℕ → Outcome
+refusedAt n c = record { sheet = refusedSheet n c; curve = noCurve }
 
 -- the close of a file of n lines
-unfoldable pub closingBy : Option Lack → Filing → ℕ → Outcome
+unfoldable pub closingBy : Option CloseReason → Filing → ℕ → Outcome
 closingBy none F n = record { sheet = level (reportOf F); curve = curveOf F }
-closingBy (some k) F n = stoppedAt (lackNumber k) n
+closingBy (some k) F n = refusedAt (closeNumber k) n
 
 unfoldable pub closingOf : Filing → ℕ → Outcome
 closingOf F n = closingBy (closingRefusal F) F n
 
 unfoldable pub outcomeBy : Option Reason → ℕ → Outcome → Outcome
 outcomeBy none n later = later
-outcomeBy (some y) n later = stoppedAt (numberOf y) n
+outcomeBy (some y) n later = refusedAt (numberOf y) n
 
 -- of the lines ls after the accepted lines es: the first line that is refused, else the close
 unfoldable pub outcomeFrom : List Line → List Line → Outcome

@@ -1,11 +1,11 @@
--- The text of a sheet: its N and Y lines, or its Z line, fields parted by tabs, each line ended by byte 10 (document 01, The printed sheet).
+-- The text of a sheet: its N and Y lines, or its Z line, fields separated by tabs, each line ended by byte 10 (document 01, The printed sheet).
 use mathlib.Core.List.{List, [], _∷_, _++_, map}
 use Prim.Native.Nat.{ℕ}
 use Rattle.lists.specs.Lists.{flat}
 use Rattle.text.specs.Digits.{digitsOf}
 use Rattle.meaning.specs.Cases.{Case, caseM, case1, case2, case3, case4, caseP, case5, case6}
 use Rattle.meaning.specs.Level.{YearReport, Report}
-use Rattle.meaning.specs.Sheet.{Sheet, stopped, level}
+use Rattle.meaning.specs.Sheet.{Sheet, refusedSheet, level}
 
 abbrev pub tabByte : ℕ
 tabByte = 9
@@ -47,5 +47,5 @@ unfoldable pub refusalLine : ℕ → ℕ → List ℕ
 refusalLine n c = (90 ∷ []) ++ (tabbed n ++ (tabbed c ++ (endByte ∷ [])))
 
 unfoldable pub textOf : Sheet → List ℕ
-textOf (stopped n c) = refusalLine n c
+textOf (refusedSheet n c) = refusalLine n c
 textOf (level r) = levelLine r ++ flat (map yearLine (r .years))

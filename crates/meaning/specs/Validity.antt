@@ -15,7 +15,7 @@ use Rattle.meaning.specs.Filing.{Filing, Reading, isTrusted, axisOf, yea
 abbrev pub halfHours : ℕ
 halfHours = 20
 
--- the peak points of a year that should be there, and those that are
+-- how many peak points a year should have, and how many are present
 unfoldable pub expectedPoints : ℕ → ℕ
 expectedPoints y = 20 * peakCount y
 
@@ -74,7 +74,7 @@ winterDays F y = keep (λ p. hasDate y (placeAt p) && isWinterDay F y p) (range 
 unfoldable pub isCovered : Filing → ℕ → Bool
 isCovered F y = all (λ p. any (λ v. hasDay v p) (intervals F)) (winterDays F y)
 
--- what an interval that overlaps a year's winter has to be like: both ends real or corrected
+-- what an interval that overlaps a year's winter must have: both ends real or corrected
 unfoldable pub isSound : Interval → Bool
 isSound v = isTrusted (v .from .kind) && isTrusted (v .to .kind)
 

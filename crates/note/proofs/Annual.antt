@@ -67,7 +67,7 @@ unfolding caIn
 entry table y c h g l = rw (le-leb 2007 y h, le-leb y 2024 g, lt-ltb c 7 l)
 
 -- ---- what the test says of a table
--- what each used entry of a column has, the entry at a place of the column has
+-- what holds of each used entry of a column holds of the entry at each of its places
 apart : (P : ℕ → Type 0) (b : Bool) (x : ℕ) (xs : List ℕ) → Each P (cond b (x ∷ xs) xs) → (T b → P x) × Each P xs
 apart P true x xs (each-cons p r) = (λ _. p, r)
 apart P false x xs r = (λ t. absurd t, r)

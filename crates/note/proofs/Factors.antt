@@ -11,7 +11,7 @@ use Rattle.lists.proofs.Tests.{and-parts}
 use Rattle.note.specs.Coefficients.{thetas, theta, coefficients, coefficientC}
 use Rattle.note.proofs.Table.{implied, given, every, at}
 
--- ---- one test for either table: no entry is above the most, and none but the one of place 0 is 0
+-- ---- one test for either table: no entry is above the limit, and none but the one of place 0 is 0
 right : ℕ → ℕ → ℕ → Bool
 right most f x = leb x most && implied (leb 1 f) (leb 1 x)
 

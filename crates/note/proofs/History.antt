@@ -39,7 +39,7 @@ column-right f h g =
     (ltb→lt c 7 (s .0), leb→le (firstUsed c) b (s .1))
 
 -- ---- history years
--- only an AL and a filière that document 01 knows have any
+-- only an AL and a filière that document 01 knows have a history year
 pub known : (al f y : ℕ) → T (among (historyYears al f) y) → T (isKnown al f)
 known al f y t = let s = among-words (historyYears al f) y .0 t in has-history al f (λ e. omega arith)
 

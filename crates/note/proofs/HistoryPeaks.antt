@@ -1,4 +1,4 @@
--- What the history of an accepted AL and filière finds in the note: peak days in each year, and CA.
+-- What the history of an accepted AL and filière has in the note: peak days in each year, and CA.
 use Prim.Native.Nat.{ℕ}
 use lib.Dec.{T}
 use Rattle.calendar.specs.Spans.{among, historyYears}

@@ -81,7 +81,7 @@ ascends (x ∷ xs) t k zero h g = absurd (not-suc-le-zero h)
 ascends (x ∷ xs) t zero (suc l) h g = above x xs t l (le-of-suc-le-suc g)
 ascends (x ∷ xs) t (suc k) (suc l) h g = ascends xs (tail-rises x xs t) k l (le-of-suc-le-suc h) (le-of-suc-le-suc g)
 
--- ---- what each element has, an entry has
+-- ---- what holds of each element holds of the one at a place
 pub each-at : {A : Type 0} {P : A → Type 0} {xs : List A} → Each P xs → (k : ℕ) (d : A) → k < length xs → P (getD xs k d)
 each-at each-nil k d h = absurd (not-suc-le-zero h)
 each-at (each-cons p r) zero d h = p

@@ -1,4 +1,4 @@
--- The answer of a call for a year's k-th peak day, from 0 on.
+-- A year's k-th peak day, counted from 0, as the code returns it.
 use mathlib.Core.Bool.{Bool, true, false}
 use Prim.Native.Nat.{ℕ}
 use lib.Dec.{ltb}

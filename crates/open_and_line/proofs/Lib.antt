@@ -1,4 +1,4 @@
 pub mod Opened
-pub mod Filled
+pub mod FrontFills
 pub mod Dispatch
 pub mod Calls

@@ -1,8 +1,8 @@
-// The work of opening and of a line, on plain blocks and the parts of a record. The lent list of readings is told by its length alone: `site` makes it
-// fresh, or stores the reading that a line gave.
+// The work of opening and of a line, on plain blocks and the parts of a record. The readings are given by their number alone: `record_calls` makes
+// them fresh, or stores the reading of a line.
 mod opening; // opening: every block fresh where each has its size, else as it was
-mod hearing; // a line: 1 and 13, then 2 to 12 or what the line changes
+mod line_call; // a line: 1 and 13, then 2 to 12 or what the line changes
 
-pub use hearing::Heard;
-pub use hearing::hear_line;
+pub use line_call::LineOutcome;
+pub use line_call::apply_line;
 pub use opening::open_blocks;

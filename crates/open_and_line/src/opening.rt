@@ -8,11 +8,11 @@ use answers::sizes_fit;
 use blocks::NO_ENTRY;
 use blocks::NO_POINT;
 ghost use Rattle.readings.specs.Lent.{EachList};
-ghost use Rattle.readings.specs.Readings.{seen, freshened};
-ghost use Rattle.readings.specs.Columns.{world};
+ghost use Rattle.readings.specs.Readings.{readingsView, freshened};
+ghost use Rattle.readings.specs.Columns.{lentBlocks};
 ghost use Rattle.open_and_line.specs.Opens.{Opens};
 
-// Whether the blocks have their sizes. The caller makes the readings fresh, of which it tells how many they are.
+// Makes the blocks fresh where all have their sizes, and returns whether they do. The readings are given by their number; the caller resets them.
 pub fn open_blocks(
     near: &mut [u32],
     far: &mut [u32],
@@ -21,7 +21,7 @@ pub fn open_blocks(
     readings: usize,
     curve: &mut [u64],
 ) -> bool
-    ensures { λ r. ⌜ EachList readings (λ rs. Opens r (world (now (near .entry)) (now (far .entry)) (now (slots .entry)) (now (daily .entry)) (seen rs) (now (curve .entry))) (world (now (near .exit)) (now (far .exit)) (now (slots .exit)) (now (daily .exit)) (seen (freshened r rs)) (now (curve .exit)))) ⌝ }
+    ensures { λ r. ⌜ EachList readings (λ rs. Opens r (lentBlocks (now (near .entry)) (now (far .entry)) (now (slots .entry)) (now (daily .entry)) (readingsView rs) (now (curve .entry))) (lentBlocks (now (near .exit)) (now (far .exit)) (now (slots .exit)) (now (daily .exit)) (readingsView (freshened r rs)) (now (curve .exit)))) ⌝ }
 {
     let fit = sizes_fit(
         near.len(),

@@ -1,4 +1,4 @@
 pub mod Laws
-pub mod Given
-pub mod Again
-pub mod Rests
+pub mod AppliedLines
+pub mod Reborrows
+pub mod BodyRests

@@ -1,3 +1,3 @@
-pub mod Turns
-pub mod Gives
+pub mod Cursors
+pub mod AppliedLine
 pub mod Own

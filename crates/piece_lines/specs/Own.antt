@@ -1,8 +1,8 @@
--- The lines of a piece given, with the readings that the caller keeps.
+-- The lines of a piece applied, with the readings that the caller keeps.
 use mathlib.Core.List.{List}
 use Rattle.readings.specs.declared.Reading.{Reading}
-use Rattle.piece_lines.specs.declared.Turn.{Turn}
-use Rattle.piece_lines.specs.declared.KeptTurn.{KeptTurn}
+use Rattle.piece_lines.specs.declared.LineCursor.{LineCursor}
+use Rattle.piece_lines.specs.declared.OwnCursor.{OwnCursor}
 
-abbrev pub turnWith : Turn → List Reading → KeptTurn
-turnWith t rs = record { turn = t; readings = rs }
+abbrev pub ownCursorOf : LineCursor → List Reading → OwnCursor
+ownCursorOf t rs = record { cursor = t; readings = rs }

@@ -1,45 +1,45 @@
-// The line of a turn, and the turn after it.
-use crate::Turn;
-use crate::next::next_turn;
-use pieces::is_answered;
+// The line of a cursor, and the cursor after it.
+use crate::LineCursor;
+use crate::next::cursor_at;
+use pieces::is_final;
 use pieces::line_in;
-use site::Opened;
-use site::Record;
+use record_calls::CallResult;
+use record_calls::Record;
 ghost use mathlib.Core.Path.{_≡_};
-ghost use Rattle.pieces.specs.Found.{partOf};
-ghost use Rattle.piece_lines.specs.Turns.{turnOf, hasLine};
+ghost use Rattle.pieces.specs.LineSpans.{partOf};
+ghost use Rattle.piece_lines.specs.Cursors.{cursorAt, hasLine};
 
-// The turn's line.
-pub(crate) fn line_of(turn: Turn, piece: &[u8]) -> &[u8]
-    ensures { λ r. ⌜ now r ≡ partOf (now (piece .entry)) (turn .next .from) (turn .next .to) ⌝ }
+// The cursor's line. A function of its own, as the others here: the hand walks that prove their callers take no cursor apart.
+pub(crate) fn line_of(cursor: LineCursor, piece: &[u8]) -> &[u8]
+    ensures { λ r. ⌜ now r ≡ partOf (now (piece .entry)) (cursor .next .from) (cursor .next .to) ⌝ }
 {
-    let next = turn.next;
+    let next = cursor.next;
     line_in(piece, next.from, next.to)
 }
 
-// Whether the turn has a line to give: a run that has its answer is given none.
-pub(crate) fn has_line(turn: Turn) -> bool
-    ensures { λ r. ⌜ r ≡ hasLine turn ⌝ }
+// Whether the cursor has a line to apply: none after a final answer. A function of its own, for the same reason.
+pub(crate) fn has_line(cursor: LineCursor) -> bool
+    ensures { λ r. ⌜ r ≡ hasLine cursor ⌝ }
 {
-    let answer = turn.answer;
-    if is_answered(answer) {
+    let answer = cursor.answer;
+    if is_final(answer) {
         return false;
     }
-    let next = turn.next;
+    let next = cursor.next;
     next.whole
 }
 
-// The record that it is given to.
-pub(crate) fn record_of(turn: Turn) -> Record
-    ensures { λ r. ⌜ r ≡ turn .«record» ⌝ }
+// The record that the line is applied to. A function of its own, for the same reason.
+pub(crate) fn record_of(cursor: LineCursor) -> Record
+    ensures { λ r. ⌜ r ≡ cursor .«record» ⌝ }
 {
-    turn.record
+    cursor.record
 }
 
-// The next turn, once the line has been given.
-pub(crate) fn turn_after(opened: Opened, turn: Turn, piece: &[u8]) -> Turn
-    ensures { λ r. ⌜ r ≡ turnOf opened (now (piece .entry)) (turn .next .past) ⌝ }
+// The next cursor, after the call with the line. A function of its own, for the same reason.
+pub(crate) fn cursor_after(call: CallResult, cursor: LineCursor, piece: &[u8]) -> LineCursor
+    ensures { λ r. ⌜ r ≡ cursorAt call (now (piece .entry)) (cursor .next .past) ⌝ }
 {
-    let next = turn.next;
-    next_turn(opened, piece, next.past)
+    let next = cursor.next;
+    cursor_at(call, piece, next.past)
 }

@@ -1,18 +1,18 @@
 // The next line of a piece.
-use crate::Turn;
+use crate::LineCursor;
 use pieces::next_line;
-use site::Opened;
+use record_calls::CallResult;
 ghost use mathlib.Core.Path.{_≡_};
-ghost use Rattle.piece_lines.specs.Turns.{turnOf};
+ghost use Rattle.piece_lines.specs.Cursors.{cursorAt};
 
-// From a place of the piece on, after a call.
-pub(crate) fn next_turn(opened: Opened, piece: &[u8], at: usize) -> Turn
-    ensures { λ r. ⌜ r ≡ turnOf opened (now (piece .entry)) at ⌝ }
+// The cursor after a call, at the next line from a place of the piece on.
+pub(crate) fn cursor_at(call: CallResult, piece: &[u8], at: usize) -> LineCursor
+    ensures { λ r. ⌜ r ≡ cursorAt call (now (piece .entry)) at ⌝ }
 {
-    let record = opened.record;
-    let answer = opened.answer;
+    let record = call.record;
+    let answer = call.answer;
     let next = next_line(piece, at);
-    Turn {
+    LineCursor {
         record,
         answer,
         next,

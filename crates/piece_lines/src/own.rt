@@ -1,27 +1,31 @@
 // All lines of a piece, for a caller that keeps its readings in an array of its own.
-use crate::KeptTurn;
-use crate::Turn;
-use crate::all_lines::give_lines;
+use crate::LineCursor;
+use crate::OwnCursor;
+use crate::all_lines::apply_lines;
 use readings::Reading;
-use site::Opened;
+use record_calls::CallResult;
 ghost use mathlib.Core.Path.{_≡_};
 ghost use mathlib.Core.List.{[]};
 ghost use Rattle.pieces.specs.Run.{runOf, fed};
-ghost use Rattle.readings.specs.Readings.{seen};
-ghost use Rattle.readings.specs.Columns.{world};
-ghost use Rattle.site.specs.Views.{handsBack};
-ghost use Rattle.piece_lines.specs.Turns.{turnView};
-ghost use Rattle.piece_lines.specs.Own.{turnWith};
+ghost use Rattle.readings.specs.Readings.{readingsView};
+ghost use Rattle.readings.specs.Columns.{lentBlocks};
+ghost use Rattle.record_calls.specs.Views.{callView};
+ghost use Rattle.piece_lines.specs.Cursors.{cursorView};
+ghost use Rattle.piece_lines.specs.Own.{ownCursorOf};
 
-fn with_turn(turn: Turn, readings: [Reading; 600]) -> KeptTurn
-    ensures { λ r. ⌜ r ≡ turnWith turn readings ⌝ }
+// A function of its own: `apply_lines_own` is proved by a hand walk, and its body is calls alone.
+fn own_cursor(cursor: LineCursor, readings: [Reading; 600]) -> OwnCursor
+    ensures { λ r. ⌜ r ≡ ownCursorOf cursor readings ⌝ }
 {
-    KeptTurn { turn, readings }
+    OwnCursor {
+        cursor: cursor,
+        readings,
+    }
 }
 
-// All lines that a piece has whole, up to an answer.
-pub fn give_own(
-    opened: Opened,
+// Applies all whole lines of a piece, up to a final answer.
+pub fn apply_lines_own(
+    call: CallResult,
     piece: &[u8],
     near: &mut [u32],
     far: &mut [u32],
@@ -29,9 +33,9 @@ pub fn give_own(
     daily: &mut [u32],
     mut readings: [Reading; 600],
     curve: &[u64],
-) -> KeptTurn
-    ensures { λ r. ⌜ turnView (r .turn) (now (piece .entry)) (world (now (near .exit)) (now (far .exit)) (now (slots .exit)) (now (daily .exit)) (seen (r .readings)) (now (curve .entry))) ≡ fed (runOf (handsBack opened (world (now (near .entry)) (now (far .entry)) (now (slots .entry)) (now (daily .entry)) (seen readings) (now (curve .entry)))) []) (now (piece .entry)) ⌝ }
+) -> OwnCursor
+    ensures { λ r. ⌜ cursorView (r .cursor) (now (piece .entry)) (lentBlocks (now (near .exit)) (now (far .exit)) (now (slots .exit)) (now (daily .exit)) (readingsView (r .readings)) (now (curve .entry))) ≡ fed (runOf (callView call (lentBlocks (now (near .entry)) (now (far .entry)) (now (slots .entry)) (now (daily .entry)) (readingsView readings) (now (curve .entry)))) []) (now (piece .entry)) ⌝ }
 {
-    let turn = give_lines(opened, piece, near, far, slots, daily, &mut readings, curve);
-    with_turn(turn, readings)
+    let cursor = apply_lines(call, piece, near, far, slots, daily, &mut readings, curve);
+    own_cursor(cursor, readings)
 }

@@ -1,4 +1,4 @@
--- The bytes of a line begun and of a piece after it.
+-- Pending bytes and the piece after them.
 use mathlib.Core.Path.{_≡_}
 use mathlib.Core.Bool.{Bool, _||_}
 use mathlib.Core.List.{List}
@@ -11,7 +11,7 @@ use Rattle.pieces.specs.Parts.{endAt}
 use Rattle.pieces.proofs.Parts.{end-within}
 use Rattle.pieces.specs.Joined.{joinedOf}
 
--- with h bytes held, of which k count, and a piece t of which n can be the line's and e are
+-- h bytes are held, of which k count; of the piece t, n bytes can belong to the line and e do
 module _ (t : List ℕ) (h k n e : ℕ) (held : k ≡ min h 320) (limit : n ≡ min (321 - k) (length t)) where
   pub limited : n ≡ length (take n t)
   limited = omega (arith, limit, length-take n t)

@@ -11,7 +11,7 @@ use borrow.Author.Tests.{ltb-true, ltb-false}
 use Rattle.text.proofs.Laws.{rest-of}
 use Rattle.pieces.specs.Parts.{endAt}
 use Rattle.pieces.proofs.Parts.{end-within}
-use Rattle.pieces.specs.Found.{partOf, foundAt}
+use Rattle.pieces.specs.LineSpans.{partOf, spanAt}
 
 -- ---- a part whose ends are within the piece
 none-taken : (n : ℕ) → take {A = ℕ} n [] ≡ []
@@ -53,6 +53,6 @@ line-fits bs at f n e p q r =
 
 pub line-is : (bs : List ℕ) (at f n e u : ℕ) (w : Bool) → f ≡ min at (length bs) → n ≡ min 321 (length (take (length bs - f) (drop f bs)))
     → e ≡ endAt (take n (take (length bs - f) (drop f bs))) → u ≡ min (e + 1) n → w ≡ (ltb e n || ltb 320 e)
-    → record { from = f; to = f + e; past = f + u; whole = w } ≡ foundAt bs at
-unfolding foundAt
+    → record { from = f; to = f + e; past = f + u; whole = w } ≡ spanAt bs at
+unfolding spanAt
 line-is bs at f n e u w p q r s t = rw (t, s, r, q, rest-of bs f, p)

@@ -1,5 +1,5 @@
 pub mod Lines
-pub mod Long
+pub mod LongLines
 pub mod Feeding
 pub mod Parts
 pub mod Pieces

@@ -1,4 +1,4 @@
--- The lines of an input whose first bytes are a line begun.
+-- The lines of an input whose first bytes are pending.
 use mathlib.Core.Path.{_≡_, refl, ap, _∙_}
 use mathlib.Core.Logic.{_≢_}
 use mathlib.Core.List.{List, [], _∷_, _++_}

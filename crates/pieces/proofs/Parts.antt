@@ -13,12 +13,12 @@ use borrow.Author.Tests.{eq-eqb, ne-eqb, eqb-true, eqb-false, lt-ltb, le-ltb, lt
 use Rattle.lists.specs.Lists.{each-nil, each-cons}
 use Rattle.meaning.specs.Line.{Line}
 use Rattle.meaning.specs.Calls.{Out}
-use Rattle.pieces.specs.Run.{Run, runOf, isAnswered, given, longer, fedByte, fed}
+use Rattle.pieces.specs.Run.{Run, runOf, isFinal, applied, longer, fedByte, fed}
 use Rattle.pieces.specs.Parts.{endAt, stepped}
 use Rattle.pieces.proofs.Lines.{Endless}
 use Rattle.pieces.proofs.Feeding.{fed-append}
 
--- ---- a walk to the end of the line
+-- ---- a loop to the end of the line
 pub end-here : (l : List ℕ) (i : ℕ) → i < length l → getD l i 0 ≡ 10 → endAt (drop i l) ≡ 0
 unfolding endAt
 end-here l i h e = rw (drop-cons l i 0 h) (simp (eq-eqb _ _ e))
@@ -61,8 +61,8 @@ end-ten (b ∷ l) h = go (eqb b 10) refl h (end-ten l)
     go true e k r = eqb-true b 10 e
     go false e k r = r (omega arith)
 
--- ---- bytes of a line begun: it is given at its 321st
-pub longer-given : (o : Out) (l : Line) → 320 < length l → longer o l ≡ given o l
+-- ---- pending bytes: their line is applied at its 321st
+pub longer-given : (o : Out) (l : Line) → 320 < length l → longer o l ≡ applied o l
 unfolding longer
 longer-given o l h = rw (lt-ltb 320 (length l) h)
 
@@ -76,7 +76,7 @@ none-left r [] h = refl
 none-left r (b ∷ t) h = absurd (omega arith)
 
 -- ---- bytes that end no line
-module _ (o : Out) (h : isAnswered (o .answer) ≡ false) where
+module _ (o : Out) (h : isFinal (o .answer) ≡ false) where
   fed-open : (b : ℕ) (l : Line) → b ≢ 10 → fedByte (runOf o l) b ≡ longer o (l ++ (b ∷ []))
   unfolding fedByte
   fed-open b l n = rw (h, ne-eqb b 10 n)
@@ -100,11 +100,11 @@ module _ (o : Out) (h : isAnswered (o .answer) ≡ false) where
       rw (fed-held b l n (omega arith))
       (fed-begun p (l ++ (b ∷ [])) e (omega (arith, length-append l (b ∷ []))) ∙ ap (runOf o) (append-assoc l (b ∷ []) p))
 
-  fed-end : (l : Line) → fed (runOf o l) (10 ∷ []) ≡ given o l
+  fed-end : (l : Line) → fed (runOf o l) (10 ∷ []) ≡ applied o l
   unfolding fed fedByte
   fed-end l = rw h
 
-  pub fed-line : (p : List ℕ) (l : Line) → Endless p → length l + length p ≤ 320 → fed (runOf o l) (p ++ (10 ∷ [])) ≡ given o (l ++ p)
+  pub fed-line : (p : List ℕ) (l : Line) → Endless p → length l + length p ≤ 320 → fed (runOf o l) (p ++ (10 ∷ [])) ≡ applied o (l ++ p)
   fed-line p l e k = fed-append (runOf o l) p (10 ∷ []) ∙ rw (fed-begun p l e k) (fed-end (l ++ p))
 
 -- ---- up to the end of the line, its 321st byte, or the end of the piece
@@ -114,7 +114,7 @@ take-within (suc e) zero t h = absurd (omega arith)
 take-within (suc e) (suc n) [] h = refl
 take-within (suc e) (suc n) (b ∷ t) h = ap (λ (x : List ℕ). b ∷ x) (take-within e n t (omega arith))
 
-module _ (o : Out) (l : Line) (t : List ℕ) (k n e : ℕ) (unanswered : isAnswered (o .answer) ≡ false) (short : length l ≤ k) (few : k ≤ 320)
+module _ (o : Out) (l : Line) (t : List ℕ) (k n e : ℕ) (unanswered : isFinal (o .answer) ≡ false) (short : length l ≤ k) (few : k ≤ 320)
     (some-left : 0 < length t) (limit : n ≡ min (321 - k) (length t)) (end : e ≡ endAt (take n t)) where
   cut : length (take n t) ≡ n
   cut = length-take n t ∙ omega arith
@@ -125,7 +125,7 @@ module _ (o : Out) (l : Line) (t : List ℕ) (k n e : ℕ) (unanswered : isAnswe
   part : Endless (take e t)
   part = rw (← take-within e n t within, end) (end-endless (take n t))
 
-  ends : e < n → fed (runOf o l) (take (e + 1) t) ≡ given o (l ++ take e t)
+  ends : e < n → fed (runOf o l) (take (e + 1) t) ≡ applied o (l ++ take e t)
   ends h =
       let b : getD t e 0 ≡ 10 = sym (getD-take n t e 0 h) ∙ rw end (end-ten (take n t) (omega (arith, end, cut))) in
       rw (add-one e, take-suc t e 0 (omega arith), b) (fed-line o unanswered (take e t) l part (omega (arith, length-take e t)))

@@ -15,7 +15,7 @@ use Rattle.meaning.specs.File.{filingIn}
 use Rattle.meaning.specs.Level.{lowestRate}
 use Rattle.demands.specs.Exact.{exactFraction}
 use Rattle.meaning.specs.Text.{tabbed, levelText, levelLine, yearLine, refusalLine, textOf}
-use Rattle.meaning.specs.Sheet.{Sheet, stopped, level, sheetOf}
+use Rattle.meaning.specs.Sheet.{Sheet, refusedSheet, level, sheetOf}
 use Rattle.demands.specs.Demands.{Within}
 use Rattle.pieces.specs.Promise.{NccBounded}
 use Rattle.pieces.proofs.Pieces.{pieces-text}
@@ -64,7 +64,7 @@ Shown x ls = fieldAt (textOf x) 0 ≡ 78 ∷ [] → Within 3 1 (lowestRate (fili
 
 by-sheet : (x : Sheet) (bs : List ℕ) → sheetOf (linesOf bs) ≡ x → Shown x (linesOf bs)
 unfolding Shown textOf levelLine
-by-sheet (stopped n c) bs e h = absurd (not-level n c h)
+by-sheet (refusedSheet n c) bs e h = absurd (not-level n c h)
 by-sheet (level r) bs e h =
     rw (third _ (r .al) (r .filiere) (r .level) _ (level-parts (r .al) (r .filiere) (r .level) (r .points) (flat (map yearLine (r .years))))) (level-bounded bs r e)
 

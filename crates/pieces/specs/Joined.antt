@@ -1,4 +1,4 @@
--- A line begun and a piece of the input after it (document 01, The printed sheet).
+-- Pending bytes and a piece of the input after them (document 01, The printed sheet).
 use mathlib.Core.Bool.{_||_}
 use mathlib.Core.List.{List}
 use Prim.Native.Nat.{ℕ, _+_, _-_, min}
@@ -9,7 +9,7 @@ use Rattle.pieces.specs.Run.{mostBytes}
 use Rattle.pieces.specs.Parts.{endAt}
 use Rattle.pieces.specs.declared.joining.Joined.{Joined}
 
--- at most 320 bytes are held; how many of the piece's the line can take; how many it does
+-- at most 320 bytes are held; how many of the piece's bytes the line can take; how many it does
 abbrev pub heldOf : ℕ → ℕ
 heldOf h = min h mostBytes
 

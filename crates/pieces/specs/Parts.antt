@@ -5,14 +5,14 @@ use Prim.Native.Nat.{ℕ, suc}
 use lib.Dec.{eqb}
 use Rattle.meaning.specs.Line.{Line}
 use Rattle.meaning.specs.Text.{endByte}
-use Rattle.pieces.specs.Run.{Run, given, longer}
+use Rattle.pieces.specs.Run.{Run, applied, longer}
 
 -- how many bytes stand before the first byte 10
 unfoldable pub endAt : List ℕ → ℕ
 endAt [] = 0
 endAt (b ∷ bs) = cond (eqb b endByte) 0 (suc (endAt bs))
 
--- bytes of the line begun, and whether its byte 10 comes after them
+-- the run after bytes of the pending line, by whether the line's byte 10 comes after them
 unfoldable pub stepped : Bool → Run → Line → Run
-stepped true r bs = given (r .out) (r .begun ++ bs)
-stepped false r bs = longer (r .out) (r .begun ++ bs)
+stepped true r bs = applied (r .out) (r .pending ++ bs)
+stepped false r bs = longer (r .out) (r .pending ++ bs)

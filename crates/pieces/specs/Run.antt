@@ -6,45 +6,45 @@ use lib.Dec.{eqb, ltb}
 use lib.ListN.{length}
 use Rattle.meaning.specs.Line.{Line}
 use Rattle.meaning.specs.Text.{endByte, textOf}
-use Rattle.meaning.specs.Blocks.{World}
+use Rattle.meaning.specs.Blocks.{Blocks}
 use Rattle.meaning.specs.Record.{Rec}
-use Rattle.meaning.specs.Calls.{Answer, took, refused, reports, Out, openingOf, lineOf, closeOf}
+use Rattle.meaning.specs.Calls.{Answer, accepted, refused, reported, Out, openingOf, lineOf, closeOf}
 use Rattle.demands.specs.CallLists.{sheetOfAnswer}
 
--- what the last call gave, and the bytes of the line begun
+-- what the last call gave, and the pending bytes: those of a line whose end has not come
 pub record Run : Type 0 where
   pub out : Out
-  pub begun : Line
+  pub pending : Line
 
 abbrev pub runOf : Out → Line → Run
-runOf o l = record { out = o; begun = l }
+runOf o l = record { out = o; pending = l }
 
--- a refusal or a report ends a run
-abbrev pub isAnswered : Answer → Bool
-isAnswered took = false
-isAnswered (refused n c) = true
-isAnswered (reports r) = true
+-- a refusal or a report is final: it ends a run
+abbrev pub isFinal : Answer → Bool
+isFinal accepted = false
+isFinal (refused n c) = true
+isFinal (reported r) = true
 
 abbrev pub mostBytes : ℕ
 mostBytes = 320
 
 -- ---- opening
-unfoldable pub started : Rec → World → Run
+unfoldable pub started : Rec → Blocks → Run
 started s w = runOf (openingOf s w) []
 
 -- ---- one byte more
--- a line is given, and none is begun
-unfoldable pub given : Out → Line → Run
-given o l = runOf (lineOf (o .after) l (o .world)) []
+-- a line is applied, and nothing is pending
+unfoldable pub applied : Out → Line → Run
+applied o l = runOf (lineOf (o .after) l (o .blocks)) []
 
--- a line is given at its 321st byte, whatever follows
+-- a line is applied at its 321st byte, whatever follows
 unfoldable pub longer : Out → Line → Run
-longer o l = cond (ltb mostBytes (length l)) (given o l) (runOf o l)
+longer o l = cond (ltb mostBytes (length l)) (applied o l) (runOf o l)
 
 unfoldable pub fedByte : Run → ℕ → Run
 fedByte r b =
-    cond (isAnswered (r .out .answer)) r
-    (cond (eqb b endByte) (given (r .out) (r .begun)) (longer (r .out) (r .begun ++ (b ∷ []))))
+    cond (isFinal (r .out .answer)) r
+    (cond (eqb b endByte) (applied (r .out) (r .pending)) (longer (r .out) (r .pending ++ (b ∷ []))))
 
 -- ---- a piece, and all pieces
 unfoldable pub fed : Run → List ℕ → Run
@@ -56,21 +56,21 @@ fedAll r [] = r
 fedAll r (p ∷ ps) = fedAll (fed r p) ps
 
 -- ---- the input's end
--- a close, unless the run has its answer
-unfoldable pub shut : Out → Out
-shut o = cond (isAnswered (o .answer)) o (closeOf (o .after) (o .world))
+-- a close, unless the run has its final answer
+unfoldable pub closeUnlessFinal : Out → Out
+closeUnlessFinal o = cond (isFinal (o .answer)) o (closeOf (o .after) (o .blocks))
 
--- a line begun is the last, which lacks its byte 10
+-- pending bytes are the last line, which has no byte 10
 unfoldable pub lastLine : Out → Line → Out
 lastLine o [] = o
-lastLine o (b ∷ l) = lineOf (o .after) (b ∷ l) (o .world)
+lastLine o (b ∷ l) = lineOf (o .after) (b ∷ l) (o .blocks)
 
-unfoldable pub ended : Run → Out
-ended r = cond (isAnswered (r .out .answer)) (r .out) (shut (lastLine (r .out) (r .begun)))
+unfoldable pub finished : Run → Out
+finished r = cond (isFinal (r .out .answer)) (r .out) (closeUnlessFinal (lastLine (r .out) (r .pending)))
 
--- ---- what a run over the pieces ps hands out
-unfoldable pub ranOver : Rec → World → List (List ℕ) → Out
-ranOver s w ps = ended (fedAll (started s w) ps)
+-- ---- what a run over the pieces ps gives
+unfoldable pub ranOver : Rec → Blocks → List (List ℕ) → Out
+ranOver s w ps = finished (fedAll (started s w) ps)
 
-unfoldable pub textGiven : Out → List ℕ
-textGiven o = textOf (sheetOfAnswer (o .answer))
+unfoldable pub textOut : Out → List ℕ
+textOut o = textOf (sheetOfAnswer (o .answer))

@@ -1,38 +1,38 @@
 // The next line of a piece of the input, from a place on.
-use crate::begun::ROOM;
-use crate::begun::end;
-use crate::begun::is_whole;
-use crate::begun::least;
+use crate::line_ends::ROOM;
+use crate::line_ends::end;
+use crate::line_ends::is_whole;
+use crate::line_ends::smaller;
 ghost use mathlib.Core.Path.{_≡_};
-ghost use Rattle.pieces.specs.Found.{partOf, foundAt};
+ghost use Rattle.pieces.specs.LineSpans.{partOf, spanAt};
 
-// Its first byte, its end, and what comes after it; whether it has its byte 10 or its 321st byte.
-pub struct Found {
+// A line of a piece: its first byte, its end, and the place after it; whether it has its byte 10 or its 321st byte.
+pub struct LineSpan {
     pub from: usize,
     pub to: usize,
     pub past: usize,
     pub whole: bool,
 }
 
-// A line is a part of its piece.
+// The bytes of a line, a part of its piece.
 pub fn line_in(piece: &[u8], from: usize, to: usize) -> &[u8]
     ensures { λ r. ⌜ now r ≡ partOf (now (piece .entry)) from to ⌝ }
 {
-    let e = least(to, piece.len());
-    let a = least(from, e);
+    let e = smaller(to, piece.len());
+    let a = smaller(from, e);
     &piece[a..e]
 }
 
-// From a place of the piece on.
-pub fn next_line(piece: &[u8], at: usize) -> Found
-    ensures { λ r. ⌜ r ≡ foundAt (now (piece .entry)) at ⌝ }
+// The next line from a place of the piece on.
+pub fn next_line(piece: &[u8], at: usize) -> LineSpan
+    ensures { λ r. ⌜ r ≡ spanAt (now (piece .entry)) at ⌝ }
 {
-    let from = least(at, piece.len());
+    let from = smaller(at, piece.len());
     let left = &piece[from..];
-    let limit = least(ROOM, left.len());
+    let limit = smaller(ROOM, left.len());
     let bytes = end(&left[..limit]);
-    let used = least(bytes + 1, limit);
-    Found {
+    let used = smaller(bytes + 1, limit);
+    LineSpan {
         from,
         to: from + bytes,
         past: from + used,

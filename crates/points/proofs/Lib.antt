@@ -1,3 +1,3 @@
-pub mod Fillings
-pub mod DonorsGiven
+pub mod PlacePoints
+pub mod DonorOrigins
 pub mod Gathered

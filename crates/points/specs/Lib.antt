@@ -1,8 +1,8 @@
-pub mod Filled
-pub mod OwnGiven
+pub mod PlacePoints
+pub mod OwnPoints
 pub mod OwnFits
 pub mod Sums
-pub mod DonorsGiven
+pub mod DonorOrigins
 pub mod DonorFits
 pub mod Sources
 pub mod Fits

@@ -1,4 +1,4 @@
--- The codes of an accepted C or P line, as the blocks have them.
+-- The codes of an accepted C or P line are what the blocks hold after it.
 use mathlib.Core.Path.{_≡_, refl, ap, _∙_}
 use mathlib.Core.Bool.{Bool, true, false, cond}
 use mathlib.Core.List.{map}

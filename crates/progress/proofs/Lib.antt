@@ -1,9 +1,11 @@
 pub mod Steps
 pub mod Rows
-pub mod Taken
+pub mod UndatedLines
 pub mod Codes
-pub mod Changed
+pub mod DatedLines
 pub mod Calls
 pub mod Spans
-pub mod Zero
-pub mod Given
+pub mod ZeroFits
+pub mod SiteNumbers
+pub mod SiteTaken
+pub mod StateLaws

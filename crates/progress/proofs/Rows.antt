@@ -1,4 +1,4 @@
--- Where the year of an accepted line stands in the record's spans, and the tallies that a record within its ranges has.
+-- The row of an accepted line's year in the record's spans, and bounds on the numbers by year of a record within its ranges.
 use mathlib.Core.Path.{_≡_, refl}
 use mathlib.Core.Bool.{Bool, true, false, not, _&&_, _||_, cond}
 use mathlib.Core.List.{List, [], _∷_}
@@ -8,14 +8,13 @@ use lib.Dec.{T, eqb, leb, ltb, leb→le, eqb→eq}
 use lib.ListN.{getD}
 use Rattle.lists.specs.Lists.{allAt}
 use Rattle.calendar.specs.declared.Years.{Years}
-use Rattle.calendar.specs.Dates.{leap}
+use Rattle.calendar.specs.Dates.{leap, allWinterDates, allDates}
 use Rattle.calendar.specs.Spans.{among, isKnown, historyYears, axisYears}
 use Rattle.calendar.proofs.Laws.{among-words, has-history, history-bounds, history-short, axis-range}
 use Rattle.meaning.specs.Filing.{noSite}
 use Rattle.meaning.specs.Line.{mostIndex}
 use Rattle.meaning.specs.Refusals.{isTooSoon, mostReadings}
-use Rattle.meaning.specs.Closing.{allWinterDates, allDates}
-use Rattle.meaning.specs.Record.{Rec, recFits, siteFits, lastsFit, talliesFit, eachYear, isWithin, isTaken, siteOfRec, historyOfSite, historyOfRec, axisOfRec}
+use Rattle.meaning.specs.Record.{Rec, recFits, siteFits, lastDatesFit, talliesFit, eachYear, isWithin, isTaken, siteOfRec, historyOfSite, historyOfRec, axisOfRec}
 use Rattle.blocks.specs.PointStores.{RowPlace}
 use Rattle.progress.specs.Steps.{FewDates}
 
@@ -36,7 +35,7 @@ site-given-axis s y t = go (isTaken s) t
     go true t = refl
     go false t = let h = among-words (axisYears (historyYears 0 0)) y .0 t in absurd (omega arith)
 
--- the years that the code finds by the site of the record
+-- the years, computed in the code from the site of the record
 pub history-given : (s : Rec) (y : ℕ) → T (among (historyOfRec s) y) → historyYears (s .site .al) (s .site .filiere) ≡ historyOfRec s
 unfolding historyOfRec historyOfSite
 history-given s y t = rw (site-given s y t)
@@ -68,7 +67,7 @@ axis-row s y t =
     let k = axis-range al f .short in
     record { from = h .0; below = omega arith }
 
--- a year of the history stands in the near or the far block
+-- a year of the history is in the near or the far block
 pub row-place : (al f y w : ℕ) → T (among (historyYears al f) y) → w < 152 → RowPlace al y w
 row-place al f y w t h =
     let a = among-words (historyYears al f) y .0 t in
@@ -77,7 +76,7 @@ row-place al f y w t h =
     let c = history-short al f k in
     record { long = omega arith; from = omega arith; to = omega arith; winter = h }
 
--- ---- a tally's number is small
+-- ---- numbers by year are small
 small : (p : ℕ → ℕ → Bool) (m : ℕ) → ((k n : ℕ) → T (p k n) → n ≤ m) → (i : ℕ) (ns : List ℕ) → T (allAt p i ns) → (k : ℕ) → getD ns k 0 ≤ m
 unfolding allAt
 small p m f i [] t k = omega arith
@@ -95,10 +94,10 @@ small p m f i (n ∷ ns) t (suc k) = small p m f (suc i) ns (second (p i n) (all
 tallies-fit : (s : Rec) → recFits s ≡ true → T (talliesFit (historyOfRec s) (s .tallies))
 unfolding recFits
 tallies-fit s e = last
-    (leb (s .state) 3 && (leb (s .count) 9999 && leb (s .last) 8))
+    (leb (s .count) 9999 && leb (s .last) 8)
     (siteFits (isTaken s) (s .site) && not (isTooSoon (s .site .al) (s .site .filiere)))
     (leb (s .readings) mostReadings && leb (s .lastIndex) mostIndex)
-    (lastsFit (historyOfRec s) (s .lasts))
+    (lastDatesFit (historyOfRec s) (s .lasts))
     (talliesFit (historyOfRec s) (s .tallies)) (rw e tt)
   where
     last : (a b c d x : Bool) → T (a && (b && (c && (d && x)))) → T x
@@ -108,7 +107,7 @@ tallies-fit s e = last
     last true false c d x t = absurd t
     last false b c d x t = absurd t
 
--- a year has at most 366 dates; the two tallies of dates come first
+-- a year has at most 366 dates; the two lists of dates come first
 tallies-parts : (s : Rec) → recFits s ≡ true
     → T (eachYear (historyOfRec s) (λ y n. leb n (allWinterDates y)) (s .tallies .profileDates))
     × T (eachYear (axisYears (historyOfRec s)) (λ y n. leb n (allDates y)) (s .tallies .dailyDates))

@@ -6,10 +6,10 @@ use Rattle.meaning.specs.Filing.{Site}
 use Rattle.meaning.specs.Refusals.{isTooSoon}
 use Rattle.meaning.specs.Record.{isWithin, siteFits}
 
--- a number of S within its range; until S is taken it may be 0 as well
-unfoldable pub givenFits : Bool → ℕ → ℕ → ℕ → Bool
-givenFits taken a b n = (not taken && eqb n 0) || isWithin a b n
+-- a number of S within its range; until S is taken it may also be 0
+unfoldable pub siteNumberFits : Bool → ℕ → ℕ → ℕ → Bool
+siteNumberFits taken a b n = (not taken && eqb n 0) || isWithin a b n
 
 -- what S gave is in its ranges, and AL and filière do not meet 9
-unfoldable pub siteStands : Bool → Site → Bool
-siteStands taken t = siteFits taken t && not (isTooSoon (t .al) (t .filiere))
+unfoldable pub siteAccepted : Bool → Site → Bool
+siteAccepted taken t = siteFits taken t && not (isTooSoon (t .al) (t .filiere))

@@ -1,18 +1,29 @@
-// What the lines so far gave: the site, the last date of each tag, how many readings, and numbers by year. What one step of a line hands back, and whether
-// each number is in its field's range (1).
+// The progress of a record, which is what its lines so far gave: the site, the last date of each tag, the number of readings, and numbers by year.
+// The result of one line, and whether each number is in its field's range (1).
 //
-// A step hands back the progress and, of an X line, the reading: the caller stores it and keeps state and count.
-mod answers; // a step that gives no reading
+// A step returns the progress and, for an X line, the reading: the caller stores it and keeps state and count.
+mod plain_step; // a step without a reading
 mod site_ranges; // 1 on what S gave: AL, filière, meter and PS
 mod last_dates; // 1 on the last date or year of each tag
 mod by_year; // 1 on the numbers by year
 mod year_range; // 1 on one last date and on one number of a year
+mod record_ranges; // 1 on all numbers of a record
+mod states; // whether a record is open
 
-pub use answers::answer;
-pub use by_year::tallies_fit;
-pub use last_dates::lasts_fit;
 use line_form::Site;
-pub use site_ranges::site_fits;
+pub use plain_step::no_reading;
+use readings::Kind;
+pub use record_ranges::once_taken;
+pub use record_ranges::record_fits;
+pub use states::is_open;
+
+// A record takes lines from its opening until a refusal by 2 to 18 or a close that reports.
+pub enum State {
+    NeverOpened,
+    Open,
+    Refused,
+    Closed,
+}
 
 // What the lines so far gave.
 pub struct Progress {
@@ -21,23 +32,23 @@ pub struct Progress {
     pub site: Site,
     pub readings: u64,
     pub last_index: u64,
-    pub lasts: Lasts,
+    pub lasts: LastDates,
     pub tallies: Tallies,
 }
 
 pub struct Step {
-    // 0 taken, else the refusal by 2 to 12, with the progress as it came
+    // 0 if taken, else the refusal's number, 2 to 12, and the progress is unchanged
     pub number: u64,
     pub progress: Progress,
-    // whether a reading is to be stored, and which: its kind is its letter
+    // whether there is a reading to store, and the reading
     pub reads: bool,
     pub position: usize,
     pub index: u64,
-    pub kind: u8,
+    pub kind: Kind,
 }
 
 // The last date of C, X, D, P as 366 times the year and the date place, the last year of B, R; 0 for none.
-pub struct Lasts {
+pub struct LastDates {
     pub c: u64,
     pub x: u64,
     pub d: u64,

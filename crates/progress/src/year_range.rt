@@ -1,13 +1,13 @@
 // 1 on one number of a year, and on one last date.
-mod by_year; // a year's number in a tally
+mod by_year; // a year's number of each kind
 mod last_dates; // the last date or year of a tag
 
 pub(crate) use by_year::each_year;
 pub(crate) use last_dates::date_fits;
 pub(crate) use last_dates::year_fits;
 
-// What is told by year.
-pub(crate) enum Tally {
+// The numbers that a record keeps by year.
+pub(crate) enum TallyKind {
     ProfileDates,
     DailyDates,
     Breaks,

@@ -10,13 +10,13 @@ use Rattle.lists.proofs.Tables.{tab-same}
 use Rattle.meaning.specs.Filing as meant
 use Rattle.meaning.specs.Blocks.{readingsSize, freshReading, readingsOf}
 use Rattle.readings.specs.declared.Reading.{Reading}
-use Rattle.readings.specs.Readings.{seen, positionsOf, countsOf, lettersOf}
-use Rattle.readings.specs.Columns.{readingIn, readingsIn, world, worldIn, Columned}
+use Rattle.readings.specs.Readings.{readingsView, positionsOf, countsOf, lettersOf}
+use Rattle.readings.specs.Columns.{readingIn, readingsIn, lentBlocks, lentBlocksIn, Columned}
 use Rattle.readings.proofs.Laws.{columns-seen, seen-length, tab-all}
 
 -- the first of them are the first of the list
 pub columned : (near far slots daily ps xs ks curve : List ℕ) (n : ℕ) → n ≤ readingsSize
-    → length ps ≡ readingsSize → length xs ≡ readingsSize → length ks ≡ readingsSize → Columned (worldIn near far slots daily ps xs ks curve) n ps xs ks
+    → length ps ≡ readingsSize → length xs ≡ readingsSize → length ks ≡ readingsSize → Columned (lentBlocksIn near far slots daily ps xs ks curve) n ps xs ks
 unfolding readingsOf readingsIn
 columned near far slots daily ps xs ks curve n few a b c = record {
   positions = a;
@@ -27,6 +27,6 @@ columned near far slots daily ps xs ks curve n few a b c = record {
 }
 
 -- a list of 600 is what its columns say
-pub seen-in : (rs : List Reading) → length rs ≡ readingsSize → readingsIn (positionsOf rs) (countsOf rs) (lettersOf rs) readingsSize ≡ seen rs
+pub seen-in : (rs : List Reading) → length rs ≡ readingsSize → readingsIn (positionsOf rs) (countsOf rs) (lettersOf rs) readingsSize ≡ readingsView rs
 unfolding readingsIn
-seen-in rs e = columns-seen rs readingsSize ∙ tab-all readingsSize (seen rs) freshReading (seen-length rs ∙ e)
+seen-in rs e = columns-seen rs readingsSize ∙ tab-all readingsSize (readingsView rs) freshReading (seen-length rs ∙ e)

@@ -12,13 +12,13 @@ use Rattle.lists.specs.Lists.{tab}
 use Rattle.lists.proofs.Laws.{length-tab, getD-tab0}
 use Rattle.lists.proofs.Tables.{tab-same}
 use Rattle.meaning.specs.Filing as meant
-use Rattle.meaning.specs.Filing.{real, corrected, estimated, strange, reading}
+use Rattle.meaning.specs.Filing.{real, corrected, estimated, noKind, reading}
 use Rattle.meaning.specs.Line.{kindOfLetter, isKind}
 use Rattle.meaning.specs.Blocks.{letterOfKind}
 use Rattle.readings.specs.declared.Kind.{Kind}
 use Rattle.readings.specs.declared.Kind.the-variants.{R, C, E}
 use Rattle.readings.specs.declared.Reading.{Reading}
-use Rattle.readings.specs.Readings.{kindView, readingView, kindShown, kindLettered, fresh, seen, freshened, letter, positionsOf, countsOf, lettersOf, firstReadings, columnsOf}
+use Rattle.readings.specs.Readings.{kindView, readingView, kindRepr, fresh, readingsView, freshened, letter, positionsOf, countsOf, lettersOf, firstReadings, columnsOf}
 
 -- ---- any field of each reading
 pub map-set : {A B : Type 0} (f : A → B) (xs : List A) (i : ℕ) (x : A) → map f (set xs i x) ≡ set (map f xs) i (f x)
@@ -31,16 +31,16 @@ map-replicate f zero x = refl
 map-replicate {B = B} f (suc n) x = ap (λ (zs : List B). f x ∷ zs) (map-replicate f n x)
 
 -- ---- the list as the definitions read it
-pub seen-put : (rs : List Reading) (i : ℕ) (r : Reading) → seen (set rs i r) ≡ set (seen rs) i (readingView r)
-unfolding seen
+pub seen-put : (rs : List Reading) (i : ℕ) (r : Reading) → readingsView (set rs i r) ≡ set (readingsView rs) i (readingView r)
+unfolding readingsView
 seen-put rs i r = map-set readingView rs i r
 
-pub seen-length : (rs : List Reading) → length (seen rs) ≡ length rs
-unfolding seen
+pub seen-length : (rs : List Reading) → length (readingsView rs) ≡ length rs
+unfolding readingsView
 seen-length rs = length-map rs readingView
 
-pub seen-fresh : (all : Bool) (rs : List Reading) → seen (freshened all rs) ≡ cond all (replicate (length rs) (reading 0 0 estimated)) (seen rs)
-unfolding seen freshened
+pub seen-fresh : (all : Bool) (rs : List Reading) → readingsView (freshened all rs) ≡ cond all (replicate (length rs) (reading 0 0 estimated)) (readingsView rs)
+unfolding readingsView freshened
 seen-fresh true rs = map-replicate readingView (length rs) fresh
 seen-fresh false rs = refl
 
@@ -84,8 +84,8 @@ letter-back E = refl
 
 -- the first n readings, out of the columns
 pub columns-seen : (rs : List Reading) (n : ℕ)
-    → tab n 0 (λ i. reading (getD (positionsOf rs) i 0) (getD (countsOf rs) i 0) (kindOfLetter (getD (lettersOf rs) i 69))) ≡ tab n 0 (λ i. getD (seen rs) i (readingView fresh))
-unfolding positionsOf countsOf lettersOf seen
+    → tab n 0 (λ i. reading (getD (positionsOf rs) i 0) (getD (countsOf rs) i 0) (kindOfLetter (getD (lettersOf rs) i 69))) ≡ tab n 0 (λ i. getD (readingsView rs) i (readingView fresh))
+unfolding positionsOf countsOf lettersOf readingsView
 columns-seen rs n = tab-same n 0 _ _ (λ i l. at i)
   where
     at : (i : ℕ) → reading (getD (map (λ (x : Reading). x .position) rs) i 0) (getD (map (λ (x : Reading). x .count) rs) i 0) (kindOfLetter (getD (map letter rs) i 69)) ≡ getD (map readingView rs) i (readingView fresh)
@@ -93,19 +93,14 @@ columns-seen rs n = tab-same n 0 _ _ (λ i l. at i)
         rw (List·getD-map (λ (x : Reading). x .position) rs i fresh, List·getD-map (λ (x : Reading). x .count) rs i fresh, List·getD-map letter rs i fresh, List·getD-map readingView rs i fresh, letter-back (getD rs i fresh .kind)) refl
 
 -- ---- kinds
-pub kind-shown : (k : meant.Kind) → T (isKind k) → kindView (kindShown k) ≡ k
+pub kind-shown : (k : meant.Kind) → T (isKind k) → kindView (kindRepr k) ≡ k
 kind-shown real t = refl
 kind-shown corrected t = refl
 kind-shown estimated t = refl
-kind-shown strange t = absurd t
+kind-shown noKind t = absurd t
 
--- what is kept of a letter that X can have
-pub kind-lettered : (b : ℕ) → T (isKind (kindOfLetter b)) → kindView (kindLettered b) ≡ kindOfLetter b
-unfolding kindLettered
-kind-lettered b t = kind-shown (kindOfLetter b) t
-
--- ---- lists that are read alike are the same
-back : (k : Kind) → kindShown (kindView k) ≡ k
+-- ---- lists with the same view are the same
+back : (k : Kind) → kindRepr (kindView k) ≡ k
 back R = refl
 back C = refl
 back E = refl
@@ -114,11 +109,11 @@ pub same-reading : (r q : Reading) → readingView r ≡ readingView q → r ≡
 same-reading r q e = λ i. record {
   position = ap (λ (x : meant.Reading). x .position) e i;
   count = ap (λ (x : meant.Reading). x .index) e i;
-  kind = (sym (back (r .kind)) ∙ ap (λ (x : meant.Reading). kindShown (x .kind)) e ∙ back (q .kind)) i;
+  kind = (sym (back (r .kind)) ∙ ap (λ (x : meant.Reading). kindRepr (x .kind)) e ∙ back (q .kind)) i;
 }
 
-pub same-readings : (rs qs : List Reading) → seen rs ≡ seen qs → rs ≡ qs
-unfolding seen
+pub same-readings : (rs qs : List Reading) → readingsView rs ≡ readingsView qs → rs ≡ qs
+unfolding readingsView
 same-readings rs qs e = ext-getD fresh rs qs same (λ i l. same-reading (getD rs i fresh) (getD qs i fresh)
     (sym (List·getD-map readingView rs i fresh) ∙ ap (λ (xs : List meant.Reading). getD xs i (readingView fresh)) e ∙ List·getD-map readingView qs i fresh))
   where

@@ -1,4 +1,4 @@
--- What holds for every list that a caller may lend, of which a function is told the length alone (document 01, Calls).
+-- What holds for every list that a caller may lend, where a function gets its length alone (document 01, Calls).
 use mathlib.Core.Path.{_≡_}
 use mathlib.Core.List.{List}
 use Prim.Native.Nat.{ℕ}

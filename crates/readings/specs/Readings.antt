@@ -5,8 +5,7 @@ use Prim.Native.Nat.{ℕ}
 use lib.ListN.{length, getD, replicate}
 use Rattle.lists.specs.Lists.{tab}
 use Rattle.meaning.specs.Filing as meant
-use Rattle.meaning.specs.Filing.{real, corrected, estimated, strange, reading}
-use Rattle.meaning.specs.Line.{kindOfLetter}
+use Rattle.meaning.specs.Filing.{real, corrected, estimated, noKind, reading}
 use Rattle.meaning.specs.Blocks.{readingsSize, letterOfKind}
 use Rattle.readings.specs.declared.Kind.{Kind}
 use Rattle.readings.specs.declared.Kind.the-variants.{R, C, E}
@@ -22,24 +21,20 @@ kindView E = estimated
 abbrev pub readingView : Reading → meant.Reading
 readingView r = reading (r .position) (r .count) (kindView (r .kind))
 
--- the kind of a line's kind field; no line is taken whose kind is none of the three
-abbrev pub kindShown : meant.Kind → Kind
-kindShown real = R
-kindShown corrected = C
-kindShown estimated = E
-kindShown strange = E
-
--- the kind of a letter
-unfoldable pub kindLettered : ℕ → Kind
-kindLettered b = kindShown (kindOfLetter b)
+-- the kind of a line's kind field, as the code has it; no line is taken whose kind is none of the three
+abbrev pub kindRepr : meant.Kind → Kind
+kindRepr real = R
+kindRepr corrected = C
+kindRepr estimated = E
+kindRepr noKind = E
 
 -- at position 0, count 0, kind E
 abbrev pub fresh : Reading
 fresh = record { position = 0; count = 0; kind = E }
 
 -- the list as the definitions have it
-unfoldable pub seen : List Reading → List meant.Reading
-seen rs = map readingView rs
+unfoldable pub readingsView : List Reading → List meant.Reading
+readingsView rs = map readingView rs
 
 -- all fresh, or as they were
 unfoldable pub freshened : Bool → List Reading → List Reading

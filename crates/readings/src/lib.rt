@@ -5,8 +5,9 @@ pub use reading_list::columns_of;
 pub use reading_list::put;
 pub use reading_list::set_fresh;
 ghost use mathlib.Core.Path.{_≡_};
+ghost use Rattle.meaning.specs.Line.{kindOfLetter, isKind};
 ghost use Rattle.meaning.specs.Blocks.{letterOfKind};
-ghost use Rattle.readings.specs.Readings.{kindView, kindLettered, freshReadings};
+ghost use Rattle.readings.specs.Readings.{kindView, kindRepr, freshReadings};
 
 // R real, C corrected, E estimated.
 pub enum Kind {
@@ -38,9 +39,21 @@ pub(crate) fn letter_of(kind: Kind) -> u8
     }
 }
 
-// A letter that is none of the three counts as E.
+pub fn is_kind(letter: u8) -> bool
+    ensures { λ r. ⌜ r ≡ isKind (kindOfLetter letter) ⌝ }
+{
+    if letter == b'R' {
+        return true;
+    }
+    if letter == b'C' {
+        return true;
+    }
+    letter == b'E'
+}
+
+// The kind of a letter; one that is none of the three counts as E.
 pub fn kind_of(letter: u8) -> Kind
-    ensures { λ r. ⌜ r ≡ kindLettered letter ⌝ }
+    ensures { λ r. ⌜ r ≡ kindRepr (kindOfLetter letter) ⌝ }
 {
     match letter {
         b'R' => Kind::R,
@@ -49,7 +62,7 @@ pub fn kind_of(letter: u8) -> Kind
     }
 }
 
-// As many as a file can have, before the opening.
+// 600 fresh readings, as many as a file can have: the list before an opening.
 pub fn fresh_readings() -> [Reading; 600]
     ensures { λ r. ⌜ r ≡ freshReadings ⌝ }
 {

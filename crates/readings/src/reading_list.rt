@@ -31,7 +31,7 @@ fn count_if(all: bool, n: usize) -> usize
     0
 }
 
-// One reading is stored; at a place past the end nothing is.
+// Stores one reading; at a place past the end nothing.
 pub fn put(readings: &mut [Reading], i: usize, reading: Reading)
     ensures { λ _. ⌜ now (readings .exit) ≡ set (now (readings .entry)) i reading ⌝ }
 {
@@ -40,7 +40,7 @@ pub fn put(readings: &mut [Reading], i: usize, reading: Reading)
     }
 }
 
-// All are made fresh, or none is.
+// Makes all readings fresh, or none.
 pub fn set_fresh(readings: &mut [Reading], all: bool)
     ensures { λ _. ⌜ now (readings .exit) ≡ freshened all (now (readings .entry)) ⌝ }
 {
@@ -57,7 +57,7 @@ pub fn set_fresh(readings: &mut [Reading], all: bool)
     }
 }
 
-// The first 600 as columns, fresh where there are no more.
+// The first 600 readings as columns, fresh where the list has no more.
 pub fn columns_of(readings: &[Reading]) -> Columns
     ensures { λ r. ⌜ r ≡ columnsOf (now (readings .entry)) ⌝ }
 {

@@ -1,4 +1,4 @@
--- The reckoned examples, proved together.
+-- The worked examples of document 01, proved together.
 use mathlib.Core.List.{map}
 use mathlib.Core.Path.{_≡_, refl}
 use Rattle.rounding.specs.Rounding.{halfUp}

@@ -1,4 +1,4 @@
--- The formulas of the points parted so that each part fits 64 bits, and how far the rate and the level can reach.
+-- The formulas of the points, split so that each part fits 64 bits, and how large a point after its rate and the level can be.
 use mathlib.Core.Path.{_≡_, ap, sym, _∙_}
 use Prim.Native.Nat.{ℕ, _+_, _*_, _/_, _%_, _≤_, _<_}
 use native.Mathlib.Nat.{div-add-mod', div-le-self, mod-lt, mul-le-mul, mul-le-mul-left}
@@ -7,7 +7,7 @@ use Rattle.rounding.specs.Rounding.{halfUp}
 use Rattle.rounding.specs.Points.{rounded, profiled, byDefault, rated, level, mostPoint}
 use Rattle.rounding.proofs.Laws.{half-up-split, half-up-at-most, half-up-no-more}
 
--- ---- a product over d, with one factor parted by d
+-- ---- a product over d, with one factor split by d
 parted : (k a d : ℕ) → 0 < d → halfUp (k * a) d ≡ k * (a / d) + halfUp (k * (a % d)) d
 parted k a d p = ap (λ (x : ℕ). halfUp (k * x) d) (sym (div-add-mod' a d)) ∙ half-up-split k (a / d) (a % d) d p
 
@@ -44,7 +44,7 @@ profiled-sizes e profile total he hp h ht =
       near = half-up-no-more (2000 * (e % total * profile)) total h;
     }
 
--- where the whole part alone passes the most, so does the point
+-- where the whole part alone exceeds the limit, so does the point
 pub profiled-large : (e profile total : ℕ) → 0 < total → 100000000 < e / total * profile → mostPoint < rounded (profiled e profile total)
 profiled-large e profile total p h = omega (arith, profiled-parted e profile total p)
 
@@ -64,7 +64,7 @@ default-sizes k a d hk ha hd hd' =
       near = half-up-no-more (k * (a % d)) d p;
     }
 
--- ---- how far the rate and the level reach
+-- ---- how large a point after its rate and the level can be
 pub rated-most : (point rate : ℕ) → point ≤ mostPoint → 10 ≤ rate → rounded (rated point rate) ≤ 20000000000000
 unfolding rounded rated
 rated-most point rate hp hr = half-up-at-most 20000000000000 (point * 1000) rate (omega arith) (omega arith)

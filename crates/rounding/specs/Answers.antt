@@ -14,16 +14,16 @@ unfoldable pub pointWhere : Bool → ℕ → Point
 pointWhere true n = Exceeds
 pointWhere false n = Is (mW n)
 
--- the point that a rounded number of mW is, or that it exceeds the most
+-- a rounded number of mW as a point, or that it exceeds the limit
 unfoldable pub pointOf : ℕ → Point
 pointOf n = pointWhere (exceeds n) n
 
 -- in document 01's words: a number of mW, or the number of a refusal
-pub data Said : Type 0 where
-  milliwatts : ℕ → Said
-  refusal : ℕ → Said
+pub data PointAnswer : Type 0 where
+  milliwatts : ℕ → PointAnswer
+  refusal : ℕ → PointAnswer
 
 -- what each case of the answer says
-unfoldable pub saidBy : Point → Said
-saidBy (Is p) = milliwatts (p .0)
-saidBy Exceeds = refusal 18
+unfoldable pub pointAnswerBy : Point → PointAnswer
+pointAnswerBy (Is p) = milliwatts (p .0)
+pointAnswerBy Exceeds = refusal 18

@@ -1,4 +1,4 @@
--- Reckoned examples of rounded fractions, as rows of one table (document 01, Reckoned examples; The printed sheet).
+-- Worked examples of rounded fractions, as rows of one table (document 01, Reckoned examples; The printed sheet).
 use mathlib.Core.List.{List, [], _∷_}
 use Prim.Native.Nat.{ℕ, _+_, _*_}
 use Rattle.rounding.specs.Points.{Fraction, over, profiled, rebuilt, byDefault, rated, level}

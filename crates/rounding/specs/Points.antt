@@ -4,7 +4,7 @@ use Prim.Native.Nat.{ℕ, _*_}
 use lib.Dec.{ltb}
 use Rattle.rounding.specs.Rounding.{halfUp}
 
--- a fraction: above, below
+-- a fraction: numerator, denominator
 pub record Fraction : Type 0 where
   pub num : ℕ
   pub den : ℕ
@@ -27,7 +27,7 @@ rebuilt ca points cas = over (ca * points) cas
 unfoldable pub byDefault : ℕ → ℕ → ℕ → ℕ → ℕ → ℕ → Fraction
 byDefault ps theta profile ca n cas = over (ps * theta * profile * ca * n) (1000000 * cas)
 
--- a point of a year with a rate, in thousandths
+-- a point after its year's rate, which is in thousandths
 unfoldable pub rated : ℕ → ℕ → Fraction
 rated point rate = over (point * 1000) rate
 
@@ -35,7 +35,7 @@ rated point rate = over (point * 1000) rate
 unfoldable pub level : ℕ → ℕ → ℕ → Fraction
 level c points n = over (c * points) (100000 * n)
 
--- 18: the most that a profiled, rebuilt or default point may come to, in mW
+-- 18: the largest profiled, rebuilt or default point, in mW
 abbrev pub mostPoint : ℕ
 mostPoint = 200000000000
 

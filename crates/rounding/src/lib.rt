@@ -15,7 +15,7 @@ pub struct Energy(pub u64);
 // mW: a point of a curve, or a sum of points.
 pub struct Power(pub u64);
 
-// A point that was worked out, or refusal 18.
+// A point that was computed, or refusal 18.
 pub enum Point {
     Is(Power),
     Exceeds,

@@ -1,4 +1,4 @@
-// The points that are profiled, rebuilt or taken by default, each rounded once and held against refusal 18.
+// The points that are profiled, rebuilt or taken by default, each rounded once and checked for refusal 18.
 ghost use mathlib.Core.Path.{_≡_};
 ghost use Prim.Native.Nat.{_≤_, _<_};
 ghost use Rattle.rounding.specs.Points.{rounded, profiled, rebuilt, byDefault};
@@ -8,7 +8,7 @@ use crate::Point;
 use crate::Power;
 use crate::nearest::half_up;
 
-// A rounded number of mW as an answer: 200,000,000,000 itself is still a point.
+// A rounded number of mW as a point, or 18: 200,000,000,000 itself is still a point.
 fn limited(mw: u64) -> Point
     ensures { λ r. ⌜ r ≡ pointOf mw ⌝ }
 {
@@ -19,7 +19,7 @@ fn limited(mw: u64) -> Point
 }
 
 // Cases 1 and P: the one step from an energy to a power. The total is at most 4,392 daily sums of 3,145,680.
-// The energy is parted by the total, since 2000 × energy × profile may not fit; where the whole part alone is too much, no product is made.
+// The energy is split by the total, since 2000 × energy × profile may not fit; where the whole part alone is too large, no product is made.
 pub fn profiled(e: Energy, profile: u64, total: u64) -> Point
     requires { ⌜ (e .0 ≤ 1_000_000_000_000) × (profile ≤ 65_535) × (0 < total) × (total ≤ 13_815_826_560) ⌝ }
     ensures { λ r. ⌜ r ≡ pointOf (rounded (profiled (e .0) profile total)) ⌝ }
@@ -41,7 +41,7 @@ pub fn rebuilt(ca: u64, points: Power, cas: u64) -> Point
     limited(half_up(ca * points.0, cas))
 }
 
-// Cases 4 and 6. What stands before CA × N is parted by the divisor, since the whole product may not fit.
+// Cases 4 and 6. The product before CA × N is split by the divisor, since the whole product may not fit.
 pub fn by_default(ps: u64, theta: u64, profile: u64, ca: u64, n: u64, cas: u64) -> Point
     requires { ⌜ (ps ≤ 100_000_000) × (theta ≤ 100_000) × (profile ≤ 65_535) × (ca ≤ 9_999) × (n ≤ 10) × (0 < cas) × (cas ≤ 99_990) ⌝ }
     ensures { λ r. ⌜ r ≡ pointOf (rounded (byDefault ps theta profile ca n cas)) ⌝ }

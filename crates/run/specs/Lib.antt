@@ -1,3 +1,3 @@
 pub mod RunViews
 pub mod FeedViews
-pub mod Ended
+pub mod RunEnds

@@ -2,24 +2,24 @@
 use Prim.Native.Nat.{ℕ, min}
 use lib.ListN.{take}
 use Rattle.meaning.specs.Line.{Line}
-use Rattle.meaning.specs.Blocks.{World}
+use Rattle.meaning.specs.Blocks.{Blocks}
 use Rattle.pieces.specs.Run as meant
 use Rattle.pieces.specs.Run.{runOf, mostBytes}
-use Rattle.site.specs.declared.Opened.{Opened}
-use Rattle.site.specs.Views.{handsBack}
+use Rattle.record_calls.specs.declared.CallResult.{CallResult}
+use Rattle.record_calls.specs.Views.{callView}
 use Rattle.run.specs.declared.Run.{Run}
 
 -- at most 320 bytes are held
-abbrev pub heldIn : Run → ℕ
-heldIn r = min (r .held) mostBytes
+abbrev pub pendingBytes : Run → ℕ
+pendingBytes r = min (r .held) mostBytes
 
-abbrev pub begunOf : Run → Line
-begunOf r = take (heldIn r) (r .line)
+abbrev pub pendingOf : Run → Line
+pendingOf r = take (pendingBytes r) (r .line)
 
--- what the last call handed back
-abbrev pub openedOf : Run → Opened
-openedOf r = record { «record» = r .«record»; answer = r .answer }
+-- what the last call returned
+abbrev pub callOfRun : Run → CallResult
+callOfRun r = record { «record» = r .«record»; answer = r .answer }
 
 -- with the lists as they are lent
-abbrev pub runView : Run → World → meant.Run
-runView r w = runOf (handsBack (openedOf r) w) (begunOf r)
+abbrev pub runView : Run → Blocks → meant.Run
+runView r w = runOf (callView (callOfRun r) w) (pendingOf r)

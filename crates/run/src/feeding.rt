@@ -1,28 +1,28 @@
-// A piece of the input, of any size.
-use crate::Fed;
+// A piece of the input, of any size, fed to a run.
+use crate::OwnRun;
 use crate::Run;
+use crate::call_of_run;
 use crate::lines::feed_lines;
-use crate::opened_of;
 use own_calls::line_own;
-use pieces::is_answered;
+use pieces::is_final;
 use pieces::join;
 use readings::Reading;
 ghost use mathlib.Core.Path.{_≡_};
 ghost use mathlib.Core.Bool.{false};
 ghost use Rattle.answers.specs.Views.{answerView};
-ghost use Rattle.pieces.specs.Run.{isAnswered, fed};
-ghost use Rattle.readings.specs.Readings.{seen};
-ghost use Rattle.readings.specs.Columns.{world};
+ghost use Rattle.pieces.specs.Run.{isFinal, fed};
+ghost use Rattle.readings.specs.Readings.{readingsView};
+ghost use Rattle.readings.specs.Columns.{lentBlocks};
 ghost use Rattle.run.specs.RunViews.{runView};
-ghost use Rattle.run.specs.FeedViews.{fedOn};
+ghost use Rattle.run.specs.FeedViews.{ownRunWith};
 
-// More bytes are held, and no line is given.
-fn fed_on(run: Run, readings: [Reading; 600], line: [u8; 321], bytes: usize) -> Fed
-    ensures { λ r. ⌜ r ≡ fedOn run readings line bytes ⌝ }
+// The run with more bytes held, and no line applied.
+fn holding_more(run: Run, readings: [Reading; 600], line: [u8; 321], bytes: usize) -> OwnRun
+    ensures { λ r. ⌜ r ≡ ownRunWith run readings line bytes ⌝ }
 {
     let record = run.record;
     let answer = run.answer;
-    Fed {
+    OwnRun {
         run: Run {
             record,
             answer,
@@ -33,7 +33,7 @@ fn fed_on(run: Run, readings: [Reading; 600], line: [u8; 321], bytes: usize) -> 
     }
 }
 
-// The line begun is given, and then those after it; or it goes on.
+// Joins the pending line with the piece: where it is then whole it is applied, and then those after it; else it stays pending.
 fn carry(
     run: Run,
     lent: [Reading; 600],
@@ -43,24 +43,24 @@ fn carry(
     slots: &mut [u16],
     daily: &mut [u32],
     curve: &[u64],
-) -> Fed
-    requires { ⌜ isAnswered (answerView (run .answer)) ≡ false ⌝ }
-    ensures { λ r. ⌜ runView (r .run) (world (now (near .exit)) (now (far .exit)) (now (slots .exit)) (now (daily .exit)) (seen (r .readings)) (now (curve .entry))) ≡ fed (runView run (world (now (near .entry)) (now (far .entry)) (now (slots .entry)) (now (daily .entry)) (seen lent) (now (curve .entry)))) (now (piece .entry)) ⌝ }
+) -> OwnRun
+    requires { ⌜ isFinal (answerView (run .answer)) ≡ false ⌝ }
+    ensures { λ r. ⌜ runView (r .run) (lentBlocks (now (near .exit)) (now (far .exit)) (now (slots .exit)) (now (daily .exit)) (readingsView (r .readings)) (now (curve .entry))) ≡ fed (runView run (lentBlocks (now (near .entry)) (now (far .entry)) (now (slots .entry)) (now (daily .entry)) (readingsView lent) (now (curve .entry)))) (now (piece .entry)) ⌝ }
 {
-    let begun = run.line;
-    let joined = join(begun, run.held, piece);
+    let pending = run.line;
+    let joined = join(pending, run.held, piece);
     let line = joined.line;
     let bytes = joined.bytes;
     if !joined.whole {
-        return fed_on(run, lent, line, bytes);
+        return holding_more(run, lent, line, bytes);
     }
     let record = run.record;
-    let kept = line_own(record, &line[..bytes], near, far, slots, daily, lent, curve);
+    let result = line_own(record, &line[..bytes], near, far, slots, daily, lent, curve);
     let used = joined.used;
-    let opened = kept.opened;
-    let readings = kept.readings;
+    let call = result.call;
+    let readings = result.readings;
     feed_lines(
-        opened,
+        call,
         readings,
         line,
         &piece[used..],
@@ -72,7 +72,7 @@ fn carry(
     )
 }
 
-// A run that has its answer stays as it is.
+// The run after a piece; one that has its final answer stays as it is.
 pub fn feed(
     run: Run,
     lent: [Reading; 600],
@@ -82,12 +82,12 @@ pub fn feed(
     slots: &mut [u16],
     daily: &mut [u32],
     curve: &[u64],
-) -> Fed
-    ensures { λ r. ⌜ runView (r .run) (world (now (near .exit)) (now (far .exit)) (now (slots .exit)) (now (daily .exit)) (seen (r .readings)) (now (curve .entry))) ≡ fed (runView run (world (now (near .entry)) (now (far .entry)) (now (slots .entry)) (now (daily .entry)) (seen lent) (now (curve .entry)))) (now (piece .entry)) ⌝ }
+) -> OwnRun
+    ensures { λ r. ⌜ runView (r .run) (lentBlocks (now (near .exit)) (now (far .exit)) (now (slots .exit)) (now (daily .exit)) (readingsView (r .readings)) (now (curve .entry))) ≡ fed (runView run (lentBlocks (now (near .entry)) (now (far .entry)) (now (slots .entry)) (now (daily .entry)) (readingsView lent) (now (curve .entry)))) (now (piece .entry)) ⌝ }
 {
     let answer = run.answer;
-    if is_answered(answer) {
-        return Fed {
+    if is_final(answer) {
+        return OwnRun {
             run,
             readings: lent,
         };
@@ -97,7 +97,7 @@ pub fn feed(
     }
     let line = run.line;
     feed_lines(
-        opened_of(run),
+        call_of_run(run),
         lent,
         line,
         piece,

@@ -1,73 +1,73 @@
 // The end of the input.
 use crate::Run;
 use answers::Answer;
-use close::Year;
+use close::YearRow;
 use own_calls::close_own;
 use own_calls::line_own;
-use pieces::is_answered;
-use pieces::is_begun;
-use pieces::least;
+use pieces::has_pending;
+use pieces::is_final;
+use pieces::smaller;
 use readings::Reading;
-use site::Closed;
-use site::Opened;
-use site::Record;
+use record_calls::CallResult;
+use record_calls::CloseResult;
+use record_calls::Record;
 ghost use mathlib.Core.Path.{_≡_};
 ghost use mathlib.Core.Bool.{_&&_, not};
 ghost use lib.Dec.{ltb};
-ghost use Rattle.pieces.specs.Run.{isAnswered, shut, ended};
+ghost use Rattle.pieces.specs.Run.{isFinal, closeUnlessFinal, finished};
 ghost use Rattle.answers.specs.Views.{answerView};
-ghost use Rattle.readings.specs.Readings.{seen};
-ghost use Rattle.readings.specs.Columns.{world};
-ghost use Rattle.close.specs.Ends.{handed};
-ghost use Rattle.site.specs.Views.{handsBack, closesBack};
+ghost use Rattle.readings.specs.Readings.{readingsView};
+ghost use Rattle.readings.specs.Columns.{lentBlocks};
+ghost use Rattle.close.specs.Ends.{closeRepr};
+ghost use Rattle.record_calls.specs.Views.{callView, closeView};
 ghost use Rattle.run.specs.RunViews.{runView};
-ghost use Rattle.run.specs.Ended.{unclosedOf, SomeReadings};
+ghost use Rattle.run.specs.RunEnds.{withoutClose, SomeReadings};
 
-// No years stand beside an answer that came before the close.
-fn unclosed(record: Record, answer: Answer) -> Closed
-    ensures { λ r. ⌜ r ≡ unclosedOf «record» answer ⌝ }
+// The result where the final answer came before the close: no years stand beside it.
+fn unclosed(record: Record, answer: Answer) -> CloseResult
+    ensures { λ r. ⌜ r ≡ withoutClose «record» answer ⌝ }
 {
-    let none = Year {
+    let none = YearRow {
         year: 0,
         case: 0,
         present: 0,
     };
-    Closed {
+    CloseResult {
         record,
         answer,
         years: [none; 10],
     }
 }
 
-// The close after the last call, unless that gave the run its answer.
-fn shut_run<'a>(
-    opened: Opened,
+// The close after the last call, unless that gave a final answer.
+fn close_unless_final<'a>(
+    call: CallResult,
     readings: [Reading; 600],
     near: &'a [u32],
     far: &'a [u32],
     slots: &[u16],
     daily: &[u32],
     curve: &mut [u64],
-) -> Closed
-    ensures { λ r. ⌜ closesBack r (world (now (near .entry)) (now (far .entry)) (now (slots .entry)) (now (daily .entry)) (seen readings) (now (curve .exit))) ≡ handed (shut (handsBack opened (world (now (near .entry)) (now (far .entry)) (now (slots .entry)) (now (daily .entry)) (seen readings) (now (curve .entry))))) ⌝ }
+) -> CloseResult
+    ensures { λ r. ⌜ closeView r (lentBlocks (now (near .entry)) (now (far .entry)) (now (slots .entry)) (now (daily .entry)) (readingsView readings) (now (curve .exit))) ≡ closeRepr (closeUnlessFinal (callView call (lentBlocks (now (near .entry)) (now (far .entry)) (now (slots .entry)) (now (daily .entry)) (readingsView readings) (now (curve .entry))))) ⌝ }
 {
-    let record = opened.record;
-    let answer = opened.answer;
-    if is_answered(answer) {
+    let record = call.record;
+    let answer = call.answer;
+    if is_final(answer) {
         return unclosed(record, answer);
     }
     close_own(record, near, far, slots, daily, readings, curve)
 }
 
-// Whether a last line is begun that lacks its byte 10.
+// Whether a last line is pending, one that has no byte 10.
 fn has_last(run: Run) -> bool
-    ensures { λ r. ⌜ r ≡ (not (isAnswered (answerView (run .answer))) && ltb 0 (run .held)) ⌝ }
+    ensures { λ r. ⌜ r ≡ (not (isFinal (answerView (run .answer))) && ltb 0 (run .held)) ⌝ }
 {
     let answer = run.answer;
-    is_begun(is_answered(answer), run.held)
+    has_pending(is_final(answer), run.held)
 }
 
-// The readings are not handed back.
+// The end of a run: a last line that has no byte 10, then the close. The readings are not returned.
 pub fn finish(
     run: Run,
     lent: [Reading; 600],
@@ -76,19 +76,19 @@ pub fn finish(
     slots: &mut [u16],
     daily: &mut [u32],
     curve: &mut [u64],
-) -> Closed
-    ensures { λ r. ⌜ SomeReadings (λ rs. closesBack r (world (now (near .exit)) (now (far .exit)) (now (slots .exit)) (now (daily .exit)) (seen rs) (now (curve .exit))) ≡ handed (ended (runView run (world (now (near .entry)) (now (far .entry)) (now (slots .entry)) (now (daily .entry)) (seen lent) (now (curve .entry)))))) ⌝ }
+) -> CloseResult
+    ensures { λ r. ⌜ SomeReadings (λ rs. closeView r (lentBlocks (now (near .exit)) (now (far .exit)) (now (slots .exit)) (now (daily .exit)) (readingsView rs) (now (curve .exit))) ≡ closeRepr (finished (runView run (lentBlocks (now (near .entry)) (now (far .entry)) (now (slots .entry)) (now (daily .entry)) (readingsView lent) (now (curve .entry)))))) ⌝ }
 {
     let record = run.record;
     let answer = run.answer;
     if !has_last(run) {
-        let opened = Opened { record, answer };
-        return shut_run(opened, lent, near, far, slots, daily, curve);
+        let call = CallResult { record, answer };
+        return close_unless_final(call, lent, near, far, slots, daily, curve);
     }
     let line = run.line;
-    let held = least(run.held, 320);
-    let kept = line_own(record, &line[..held], near, far, slots, daily, lent, curve);
-    let opened = kept.opened;
-    let readings = kept.readings;
-    shut_run(opened, readings, near, far, slots, daily, curve)
+    let held = smaller(run.held, 320);
+    let result = line_own(record, &line[..held], near, far, slots, daily, lent, curve);
+    let call = result.call;
+    let readings = result.readings;
+    close_unless_final(call, readings, near, far, slots, daily, curve)
 }

@@ -1,14 +1,14 @@
 // A run at its start, on a record that is opened.
-use crate::Fed;
+use crate::OwnRun;
 use crate::start;
 use own_calls::open_own;
 use readings::fresh_readings;
-use site::Record;
+use record_calls::Record;
 ghost use mathlib.Core.Path.{_≡_};
 ghost use Rattle.meaning.specs.Record.{neverOpened};
 ghost use Rattle.pieces.specs.Run.{started};
-ghost use Rattle.readings.specs.Readings.{seen, freshReadings};
-ghost use Rattle.readings.specs.Columns.{world};
+ghost use Rattle.readings.specs.Readings.{readingsView, freshReadings};
+ghost use Rattle.readings.specs.Columns.{lentBlocks};
 ghost use Rattle.run.specs.RunViews.{runView};
 
 pub fn begin(
@@ -17,10 +17,10 @@ pub fn begin(
     slots: &mut [u16],
     daily: &mut [u32],
     curve: &mut [u64],
-) -> Fed
-    ensures { λ r. ⌜ runView (r .run) (world (now (near .exit)) (now (far .exit)) (now (slots .exit)) (now (daily .exit)) (seen (r .readings)) (now (curve .exit))) ≡ started neverOpened (world (now (near .entry)) (now (far .entry)) (now (slots .entry)) (now (daily .entry)) (seen freshReadings) (now (curve .entry))) ⌝ }
+) -> OwnRun
+    ensures { λ r. ⌜ runView (r .run) (lentBlocks (now (near .exit)) (now (far .exit)) (now (slots .exit)) (now (daily .exit)) (readingsView (r .readings)) (now (curve .exit))) ≡ started neverOpened (lentBlocks (now (near .entry)) (now (far .entry)) (now (slots .entry)) (now (daily .entry)) (readingsView freshReadings) (now (curve .entry))) ⌝ }
 {
-    let kept = open_own(
+    let result = open_own(
         Record::never_opened(),
         near,
         far,
@@ -29,10 +29,10 @@ pub fn begin(
         fresh_readings(),
         curve,
     );
-    let opened = kept.opened;
-    let readings = kept.readings;
-    Fed {
-        run: start(opened),
+    let call = result.call;
+    let readings = result.readings;
+    OwnRun {
+        run: start(call),
         readings,
     }
 }

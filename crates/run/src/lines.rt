@@ -1,25 +1,25 @@
-// The lines of a piece that none is begun before.
-use crate::Fed;
+// Lines of a piece when no line is pending.
+use crate::OwnRun;
 use crate::Run;
-use piece_lines::KeptTurn;
-use piece_lines::give_own;
+use piece_lines::OwnCursor;
+use piece_lines::apply_lines_own;
 use pieces::appended;
-use pieces::is_answered;
-use pieces::least;
+use pieces::is_final;
+use pieces::smaller;
 use readings::Reading;
-use site::Opened;
+use record_calls::CallResult;
 ghost use mathlib.Core.Path.{_≡_};
 ghost use mathlib.Core.Bool.{cond};
 ghost use mathlib.Core.List.{[]};
 ghost use Rattle.pieces.specs.Run.{runOf, fed};
-ghost use Rattle.readings.specs.Readings.{seen};
-ghost use Rattle.readings.specs.Columns.{world};
-ghost use Rattle.site.specs.Views.{handsBack};
+ghost use Rattle.readings.specs.Readings.{readingsView};
+ghost use Rattle.readings.specs.Columns.{lentBlocks};
+ghost use Rattle.record_calls.specs.Views.{callView};
 ghost use Rattle.run.specs.RunViews.{runView};
-ghost use Rattle.run.specs.FeedViews.{heldWith};
+ghost use Rattle.run.specs.FeedViews.{restPending};
 
-// None is begun once there is an answer.
-fn held_of(answered: bool, bytes: usize) -> usize
+// How many bytes are pending: none once there is a final answer.
+fn pending_bytes(answered: bool, bytes: usize) -> usize
     ensures { λ r. ⌜ r ≡ cond answered 0 bytes ⌝ }
 {
     if answered {
@@ -28,30 +28,30 @@ fn held_of(answered: bool, bytes: usize) -> usize
     bytes
 }
 
-// What is left of the piece is a line begun.
-fn held_on(given: KeptTurn, line: [u8; 321], piece: &[u8]) -> Fed
-    ensures { λ r. ⌜ r ≡ heldWith given line (now (piece .entry)) ⌝ }
+// The run after the lines of a piece: what is left of the piece is pending.
+fn keep_rest(own: OwnCursor, line: [u8; 321], piece: &[u8]) -> OwnRun
+    ensures { λ r. ⌜ r ≡ restPending own line (now (piece .entry)) ⌝ }
 {
-    let turn = given.turn;
-    let readings = given.readings;
-    let record = turn.record;
-    let answer = turn.answer;
-    let next = turn.next;
-    let from = least(next.from, piece.len());
+    let cursor = own.cursor;
+    let readings = own.readings;
+    let record = cursor.record;
+    let answer = cursor.answer;
+    let next = cursor.next;
+    let from = smaller(next.from, piece.len());
     let left = &piece[from..];
-    Fed {
+    OwnRun {
         run: Run {
             record,
             answer,
             line: appended(line, 0, left),
-            held: held_of(is_answered(answer), left.len()),
+            held: pending_bytes(is_final(answer), left.len()),
         },
         readings,
     }
 }
 
 pub(crate) fn feed_lines(
-    opened: Opened,
+    call: CallResult,
     readings: [Reading; 600],
     line: [u8; 321],
     piece: &[u8],
@@ -60,9 +60,9 @@ pub(crate) fn feed_lines(
     slots: &mut [u16],
     daily: &mut [u32],
     curve: &[u64],
-) -> Fed
-    ensures { λ r. ⌜ runView (r .run) (world (now (near .exit)) (now (far .exit)) (now (slots .exit)) (now (daily .exit)) (seen (r .readings)) (now (curve .entry))) ≡ fed (runOf (handsBack opened (world (now (near .entry)) (now (far .entry)) (now (slots .entry)) (now (daily .entry)) (seen readings) (now (curve .entry)))) []) (now (piece .entry)) ⌝ }
+) -> OwnRun
+    ensures { λ r. ⌜ runView (r .run) (lentBlocks (now (near .exit)) (now (far .exit)) (now (slots .exit)) (now (daily .exit)) (readingsView (r .readings)) (now (curve .entry))) ≡ fed (runOf (callView call (lentBlocks (now (near .entry)) (now (far .entry)) (now (slots .entry)) (now (daily .entry)) (readingsView readings) (now (curve .entry)))) []) (now (piece .entry)) ⌝ }
 {
-    let given = give_own(opened, piece, near, far, slots, daily, readings, curve);
-    held_on(given, line, piece)
+    let own = apply_lines_own(call, piece, near, far, slots, daily, readings, curve);
+    keep_rest(own, line, piece)
 }

@@ -14,8 +14,8 @@ use Rattle.text.proofs.Written.{written-fits, take-written}
 use Rattle.meaning.specs.Text.{tabbed, levelText, yearText}
 use Rattle.sheet.specs.Put.{Put}
 use Rattle.sheet.proofs.Chains.{tabbed-length}
-use Rattle.close.specs.declared.outcome.file.Year.{Year}
-use Rattle.sheet.specs.Shown.{rowText, rowsText, Holds}
+use Rattle.close.specs.declared.outcome.file.YearRow.{YearRow}
+use Rattle.sheet.specs.SheetTexts.{rowText, rowsText, Holds}
 
 -- ---- nothing put
 pub put-none : (w : List ℕ) (a : ℕ) → a ≤ length w → Put w w a a []
@@ -39,15 +39,15 @@ unfolding yearText
 year-length y c k a b = simp length-append (omega (arith, tabbed-length y a, tabbed-length k b))
 
 -- ---- a year's line, or none
-pub row-none : (y : Year) → y .year ≡ 0 → rowText y ≡ []
+pub row-none : (y : YearRow) → y .year ≡ 0 → rowText y ≡ []
 unfolding rowText
 row-none y e = rw (eq-eqb (y .year) 0 e)
 
-pub row-some : (y : Year) → (y .year ≡ 0 → ⊥) → rowText y ≡ yearText (y .year) (y .case) (y .present)
+pub row-some : (y : YearRow) → (y .year ≡ 0 → ⊥) → rowText y ≡ yearText (y .year) (y .case) (y .present)
 unfolding rowText
 row-some y e = rw (ne-eqb (y .year) 0 e)
 
-pub row-length : (y : Year) → y .year < 2 ^ 64 → y .present < 2 ^ 64 → length (rowText y) ≤ 46
+pub row-length : (y : YearRow) → y .year < 2 ^ 64 → y .present < 2 ^ 64 → length (rowText y) ≤ 46
 unfolding rowText
 row-length y a b = go (eqb (y .year) 0)
   where
@@ -61,19 +61,19 @@ unfolding flat
 flat-one [] x = append-nil x
 flat-one (y ∷ xs) x = ap (λ (l : List ℕ). y ++ l) (flat-one xs x) ∙ sym (append-assoc y (flat xs) x)
 
-map-one : (ys : List Year) (y : Year) → map rowText (ys ++ (y ∷ [])) ≡ map rowText ys ++ (rowText y ∷ [])
+map-one : (ys : List YearRow) (y : YearRow) → map rowText (ys ++ (y ∷ [])) ≡ map rowText ys ++ (rowText y ∷ [])
 map-one [] y = refl
 map-one (x ∷ ys) y = ap (λ (l : List (List ℕ)). rowText x ∷ l) (map-one ys y)
 
-pub rows-none : (ys : List Year) → rowsText (take 0 ys) ≡ []
+pub rows-none : (ys : List YearRow) → rowsText (take 0 ys) ≡ []
 unfolding rowsText flat
 rows-none ys = refl
 
-pub rows-next : (ys : List Year) (i : ℕ) (d : Year) → i < length ys → rowsText (take (i + 1) ys) ≡ rowsText (take i ys) ++ rowText (getD ys i d)
+pub rows-next : (ys : List YearRow) (i : ℕ) (d : YearRow) → i < length ys → rowsText (take (i + 1) ys) ≡ rowsText (take i ys) ++ rowText (getD ys i d)
 unfolding rowsText
 rows-next ys i d h = rw (add-one i, take-suc ys i d h, map-one (take i ys) (getD ys i d)) (flat-one (map rowText (take i ys)) (rowText (getD ys i d)))
 
-pub rows-all : (ys : List Year) (i : ℕ) → length ys ≤ i → rowsText (take i ys) ≡ rowsText ys
+pub rows-all : (ys : List YearRow) (i : ℕ) → length ys ≤ i → rowsText (take i ys) ≡ rowsText ys
 rows-all ys i h = ap rowsText (take-all i ys h)
 
 -- ---- what stands at the start

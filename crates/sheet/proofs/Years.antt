@@ -14,9 +14,9 @@ use Rattle.calendar.proofs.Laws.{history-bounds, history-short, no-history}
 use Rattle.meaning.specs.Filing.{Filing, historyOf, yearsIn, historyList}
 use Rattle.meaning.specs.Text.{yearLine}
 use Rattle.meaning.specs.Level.{YearReport, yearReport, Report, reportOf}
-use Rattle.close.specs.declared.outcome.file.Year.{Year}
-use Rattle.close.specs.FileTold.{noYear, yearShown, yearsShown}
-use Rattle.sheet.specs.Shown.{rowText, rowsText}
+use Rattle.close.specs.declared.outcome.file.YearRow.{YearRow}
+use Rattle.close.specs.FileOutcomes.{noYear, yearRepr, yearsRepr}
+use Rattle.sheet.specs.SheetTexts.{rowText, rowsText}
 use Rattle.sheet.proofs.Rows.{row-none, row-some}
 
 -- no more than ten years, and none is 0
@@ -34,26 +34,26 @@ unfolding rowsText tab flat
 no-rows zero i = refl
 no-rows (suc n) i = rw (row-none noYear refl) (no-rows n (suc i))
 
-row-line : (y : YearReport) → (y .year ≡ 0 → ⊥) → rowText (yearShown y) ≡ yearLine y
-unfolding yearShown yearLine
-row-line y h = row-some (yearShown y) h
+row-line : (y : YearReport) → (y .year ≡ 0 → ⊥) → rowText (yearRepr y) ≡ yearLine y
+unfolding yearRepr yearLine
+row-line y h = row-some (yearRepr y) h
 
 Dated : List YearReport → Type 0
 Dated ys = Each (λ (y : YearReport). y .year ≡ 0 → ⊥) ys
 
-first-row : (n : ℕ) (y : YearReport) (ys : List YearReport) → (y .year ≡ 0 → ⊥) → rowsText (tab n 0 (λ k. getD (map yearShown ys) k noYear)) ≡ flat (map yearLine ys)
-    → rowsText (tab (suc n) 0 (λ k. getD (map yearShown (y ∷ ys)) k noYear)) ≡ flat (map yearLine (y ∷ ys))
+first-row : (n : ℕ) (y : YearReport) (ys : List YearReport) → (y .year ≡ 0 → ⊥) → rowsText (tab n 0 (λ k. getD (map yearRepr ys) k noYear)) ≡ flat (map yearLine ys)
+    → rowsText (tab (suc n) 0 (λ k. getD (map yearRepr (y ∷ ys)) k noYear)) ≡ flat (map yearLine (y ∷ ys))
 unfolding rowsText tab flat
-first-row n y ys d r = rw (row-line y d, tab-next n 0 (λ k. getD (map yearShown (y ∷ ys)) k noYear)) (ap (λ (l : List ℕ). yearLine y ++ l) r)
+first-row n y ys d r = rw (row-line y d, tab-next n 0 (λ k. getD (map yearRepr (y ∷ ys)) k noYear)) (ap (λ (l : List ℕ). yearLine y ++ l) r)
 
-shown-in : (n : ℕ) (ys : List YearReport) → length ys ≤ n → Dated ys → rowsText (tab n 0 (λ k. getD (map yearShown ys) k noYear)) ≡ flat (map yearLine ys)
+shown-in : (n : ℕ) (ys : List YearReport) → length ys ≤ n → Dated ys → rowsText (tab n 0 (λ k. getD (map yearRepr ys) k noYear)) ≡ flat (map yearLine ys)
 unfolding flat Dated
 shown-in n [] h e = no-rows n 0
 shown-in zero (y ∷ ys) h e = absurd (omega arith)
 shown-in (suc n) (y ∷ ys) h (each-cons d e) = first-row n y ys d (shown-in n ys (omega arith) e)
 
-pub rows-shown : {ys : List YearReport} → Printable ys → rowsText (yearsShown ys) ≡ flat (map yearLine ys)
-unfolding yearsShown Dated
+pub rows-shown : {ys : List YearReport} → Printable ys → rowsText (yearsRepr ys) ≡ flat (map yearLine ys)
+unfolding yearsRepr Dated
 rows-shown {ys} p = shown-in 10 ys (p .few) (p .dated)
 
 pub none-printable : Printable []

@@ -6,19 +6,19 @@ use crate::refusal_line::put_refusal;
 use crate::report_lines::put_level;
 use crate::report_lines::put_year;
 use answers::Answer;
-use close::Year;
+use close::YearRow;
 ghost use Prim.Native.Nat.{_+_, _≤_};
 ghost use lib.ListN.{length};
 ghost use Rattle.sheet.specs.Put.{Put};
-ghost use Rattle.sheet.specs.Shown.{rowText, rowsText, sheetText, Holds};
+ghost use Rattle.sheet.specs.SheetTexts.{rowText, rowsText, sheetText, Holds};
 
-// The first bytes are a sheet's text.
+// A sheet's text: the first `length` bytes.
 pub struct Printed {
     pub bytes: [u8; 546],
     pub length: usize,
 }
 
-fn put_row(year: Year, out: &mut [u8], at: usize) -> usize
+fn put_row(year: YearRow, out: &mut [u8], at: usize) -> usize
     requires { ⌜ at + 46 ≤ length (now out) ⌝ }
     ensures { λ r. ⌜ Put (now (out .entry)) (now (out .exit)) at r (rowText year) × (r ≤ at + 46) ⌝ }
 {
@@ -28,7 +28,7 @@ fn put_row(year: Year, out: &mut [u8], at: usize) -> usize
     put_year(year.year, year.case, year.present, out, at)
 }
 
-fn put_rows(years: [Year; 10], out: &mut [u8], at: usize) -> usize
+fn put_rows(years: [YearRow; 10], out: &mut [u8], at: usize) -> usize
     requires { ⌜ at + 460 ≤ length (now out) ⌝ }
     ensures { λ r. ⌜ Put (now (out .entry)) (now (out .exit)) at r (rowsText years) ⌝ }
 {
@@ -42,14 +42,14 @@ fn put_rows(years: [Year; 10], out: &mut [u8], at: usize) -> usize
     a
 }
 
-fn put_sheet(answer: Answer, years: [Year; 10], out: &mut [u8]) -> usize
+fn put_sheet(answer: Answer, years: [YearRow; 10], out: &mut [u8]) -> usize
     requires { ⌜ 546 ≤ length (now out) ⌝ }
     ensures { λ r. ⌜ Put (now (out .entry)) (now (out .exit)) 0 r (sheetText answer years) ⌝ }
 {
     match answer {
-        Answer::Took => put_refusal(0, 0, out, 0),
+        Answer::Accepted => put_refusal(0, 0, out, 0),
         Answer::Refused { number, count } => put_refusal(number, count, out, 0),
-        Answer::Reports {
+        Answer::Reported {
             al,
             filiere,
             level,
@@ -61,7 +61,7 @@ fn put_sheet(answer: Answer, years: [Year; 10], out: &mut [u8]) -> usize
     }
 }
 
-pub fn text(answer: Answer, years: [Year; 10]) -> Printed
+pub fn text(answer: Answer, years: [YearRow; 10]) -> Printed
     ensures { λ r. ⌜ Holds r (sheetText answer years) ⌝ }
 {
     let mut bytes = [0u8; 546];

@@ -80,7 +80,7 @@ fn ca_row(year: u64) {
     end_line();
 }
 
-// What a filière has one figure of.
+// The figures that each filière has one of.
 enum Figure {
     Column,
     Theta,

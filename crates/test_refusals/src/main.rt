@@ -1,18 +1,18 @@
 // Runs the cases on standard input through opening and line, and writes each refusal's number and count.
 //
-// A line = ends a case, and a line ~ stands for a line that is given with a near block of another size.
+// A line = ends a case, and a line ~ is passed on with a near block of another size.
 use blocks::NO_POINT;
 ghost use Prim.Native.Nat.{_≤_};
 ghost use lib.ListN.{length};
 use answers::Answer;
 use libc::STDIN_FILENO;
 use libc::STDOUT_FILENO;
-use own_calls::Kept;
+use own_calls::OwnResult;
 use own_calls::line_own;
 use own_calls::open_own;
 use readings::Reading;
 use readings::fresh_readings;
-use site::Record;
+use record_calls::Record;
 
 // A record with its readings, and what is to be written: nothing (0), a refusal (1) or a case's end (2).
 struct Stepped {
@@ -30,7 +30,7 @@ fn line_end(text: &[u8], at: usize) -> usize
 {
     let mut e = at;
     while e < text.len() {
-        if text[e] == 10 {
+        if text[e] == b'\n' {
             return e;
         }
         e += 1;
@@ -45,7 +45,7 @@ fn is_sign(line: &[u8], sign: u8) -> bool {
     line[0] == sign
 }
 
-// What is said of an answer, by its number and count.
+// What is written of an answer, with its number and count.
 struct Said {
     say: u64,
     number: u64,
@@ -54,7 +54,7 @@ struct Said {
 
 fn said_of(answer: Answer) -> Said {
     match answer {
-        Answer::Took => Said {
+        Answer::Accepted => Said {
             say: 0,
             number: 0,
             count: 0,
@@ -65,7 +65,7 @@ fn said_of(answer: Answer) -> Said {
             count,
         },
         // no close is called
-        Answer::Reports {
+        Answer::Reported {
             al: _,
             filiere: _,
             level: _,
@@ -78,10 +78,10 @@ fn said_of(answer: Answer) -> Said {
     }
 }
 
-fn step_of(kept: Kept, said: Said) -> Stepped {
-    let opened = kept.opened;
-    let readings = kept.readings;
-    let record = opened.record;
+fn step_of(result: OwnResult, said: Said) -> Stepped {
+    let call = result.call;
+    let readings = result.readings;
+    let record = call.record;
     Stepped {
         record,
         readings,
@@ -100,7 +100,7 @@ fn case_end(count: u64) -> Said {
     }
 }
 
-// How much of the near block a line is lent.
+// How many places of the near block a line is lent.
 fn lent(line: &[u8], size: usize) -> usize
     ensures { λ r. ⌜ r ≤ size ⌝ }
 {
@@ -110,7 +110,7 @@ fn lent(line: &[u8], size: usize) -> usize
     size
 }
 
-// At a case's end the blocks are made fresh for the next one.
+// Applies a line to the record. At a case's end the blocks are made fresh for the next one.
 fn step(
     record: Record,
     readings: [Reading; 600],
@@ -127,7 +127,7 @@ fn step(
         return step_of(fresh, case_end(count));
     }
     let size = lent(line, near.len());
-    let kept = line_own(
+    let result = line_own(
         record,
         line,
         &mut near[..size],
@@ -137,9 +137,9 @@ fn step(
         readings,
         curve,
     );
-    let opened = kept.opened;
-    let answer = opened.answer;
-    step_of(kept, said_of(answer))
+    let call = result.call;
+    let answer = call.answer;
+    step_of(result, said_of(answer))
 }
 
 fn write_step(say: u64, number: u64, count: u64) {
@@ -182,9 +182,9 @@ fn main() {
         );
         write_step(r.say, r.number, r.count);
         let next = r.record;
-        let kept = r.readings;
+        let result = r.readings;
         record = next;
-        readings = kept;
+        readings = result;
         at = e + 1;
     }
 }

@@ -16,7 +16,7 @@ use Rattle.text.proofs.NumberLaws.{value-snoc, of-number}
 use Rattle.text.specs.Digits.{digitsWithin, digitsOf}
 
 -- ---- the decimal text of a number, by division by ten
--- more divisions than the number counts change nothing
+-- more than n divisions change nothing
 within-enough : (k j n : ℕ) → n < k → n < j → digitsWithin k n ≡ digitsWithin j n
 unfolding digitsWithin
 within-enough zero j n h g = absurd (omega arith)

@@ -1,4 +1,4 @@
--- Laws of fields: of a walk over a line's bytes, by what is true of the bytes from place i on, and the definitions in words. Those of numbers are passed on.
+-- Laws of fields: of a loop over a line's bytes, by what is true of the bytes from place i on, and the definitions in words.
 use mathlib.Core.Path.{_≡_, refl, ap, sym, _∙_}
 use mathlib.Core.Logic.{_↔_, _⊎_, inl, inr, ⊎-elim}
 use mathlib.Core.Bool.{Bool, true, false, not, _&&_, _||_, cond}
@@ -15,12 +15,12 @@ use Rattle.lists.specs.Lists.{any, Each, each-nil, each-cons}
 use Rattle.lists.proofs.Laws.{any-snoc}
 use Rattle.lists.proofs.Reflect.{of-eq, of-and}
 use Rattle.lists.proofs.Tests.{same, is-true}
-use Rattle.text.specs.Fields.{isStrange, upTo, past, tabAt, tabs, restAt, fieldAt, reads}
-use Rattle.text.specs.Numbered.{numberedOf}
-use Rattle.text.specs.declared.Numbered.{Numbered}
+use Rattle.text.specs.Fields.{isInvalid, upTo, past, tabAt, tabs, restAt, fieldAt, reads}
+use Rattle.text.specs.NumberFields.{numberFieldOf}
+use Rattle.text.specs.declared.NumberField.{NumberField}
 use Rattle.text.proofs.NumberLaws.{value-snoc, number-snoc, eqb-capped}
 
--- ---- a walk: the first tab
+-- ---- a loop: the first tab
 pub tab-here : (l : List ℕ) (i : ℕ) → i < length l → getD l i 0 ≡ 9 → tabAt (drop i l) ≡ 0
 unfolding tabAt
 tab-here l i h e = rw (drop-cons l i 0 h) (simp (eq-eqb _ _ e))
@@ -77,7 +77,7 @@ past-none l h = past-drop l ∙ drop-of-length-le l {i = tabAt l + 1} (omega ari
 pub rest-of : (t : List ℕ) (a : ℕ) → take (length t - a) (drop a t) ≡ drop a t
 rest-of t a = rw (← length-drop a t) (take-length (drop a t))
 
--- ---- the caller's walk: e is where the first tab of t stands, k the place past it
+-- ---- the caller's loop: e is where the first tab of t stands, k the place past it
 -- what `&t[..e]` holds, and that it is as long as it says
 pub first-of : (t : List ℕ) (e : ℕ) → e ≡ tabAt t → take e t ≡ upTo t
 first-of t e h = rw h (sym (up-take t))
@@ -86,7 +86,7 @@ first-of t e h = rw h (sym (up-take t))
 pub rest-past : (t : List ℕ) (e k : ℕ) → e ≡ tabAt t → k ≡ min (e + 1) (length t) → take (length t - k) (drop k t) ≡ past t
 rest-past t e k h g = rest-of t k ∙ rw (g, h) (past-min t)
 
--- ---- the walk over a number: what the first i bytes are, with one byte more, and where the field ends
+-- ---- the loop over a number: what the first i bytes are, with one byte more, and where the field ends
 pub number-on : (s : List ℕ) (i : ℕ) (b c : Bool) (v : ℕ) → i < length s → b ≡ isNumber (take i s) → v ≡ min (valueOf (take i s)) most
     → c ≡ (isDigit (getD s i 0) && (eqb i 0 || (not (eqb v 0) && b))) → c ≡ isNumber (take (i + 1) s)
 number-on s i b c v h p q e =
@@ -96,12 +96,12 @@ number-on s i b c v h p q e =
 pub value-on : (s : List ℕ) (i v w : ℕ) → i < length s → v ≡ min (valueOf (take i s)) most → w ≡ min (v * 10 + (getD s i 0 - 48)) most → w ≡ min (valueOf (take (i + 1) s)) most
 value-on s i v w h q e = e ∙ rw (add-one i, take-suc s i 0 h, value-snoc (take i s) (getD s i 0)) (omega arith)
 
-pub strange-on : (s : List ℕ) (i : ℕ) (b c : Bool) → i < length s → b ≡ any isStrange (take i s) → c ≡ (b || isStrange (getD s i 0)) → c ≡ any isStrange (take (i + 1) s)
-strange-on s i b c h p e = e ∙ rw (p, add-one i, take-suc s i 0 h, any-snoc isStrange (take i s) (getD s i 0))
+pub invalid-on : (s : List ℕ) (i : ℕ) (b c : Bool) → i < length s → b ≡ any isInvalid (take i s) → c ≡ (b || isInvalid (getD s i 0)) → c ≡ any isInvalid (take (i + 1) s)
+invalid-on s i b c h p e = e ∙ rw (p, add-one i, take-suc s i 0 h, any-snoc isInvalid (take i s) (getD s i 0))
 
-pub numbered : (s : List ℕ) (i : ℕ) (a b : Bool) (v : ℕ) → i ≡ tabAt s → a ≡ any isStrange (take i s) → b ≡ isNumber (take i s) → v ≡ min (valueOf (take i s)) most
-    → _≡_ {A = Numbered} (record { length = i; strange = a; formed = b; value = v }) (numberedOf s)
-unfolding numberedOf
+pub numbered : (s : List ℕ) (i : ℕ) (a b : Bool) (v : ℕ) → i ≡ tabAt s → a ≡ any isInvalid (take i s) → b ≡ isNumber (take i s) → v ≡ min (valueOf (take i s)) most
+    → _≡_ {A = NumberField} (record { length = i; invalid = a; formed = b; value = v }) (numberFieldOf s)
+unfolding numberFieldOf
 numbered s i a b v e g p q = rw (g, p, q, first-of s i e, e)
 
 -- ---- fields in words
@@ -174,6 +174,6 @@ of-reads (x ∷ f) (y ∷ t) = both (of-and (eqb x y) (reads f t) (of-eq x y) (o
     both : T (eqb x y && reads f t) ↔ ((x ≡ y) × (f ≡ t)) → T (eqb x y && reads f t) ↔ (_≡_ {A = List ℕ} (x ∷ f) (y ∷ t))
     both r = (λ h. let p : x ≡ y = r .0 h .0 in let q : f ≡ t = r .0 h .1 in cc, λ e. let p : x ≡ y = cc in let q : f ≡ t = cc in r .1 (p, q))
 
--- an answer that is true just where two texts are the same
+-- a result that is true just where two texts are the same
 pub reads-same : (r : Bool) (f t : List ℕ) → (r ≡ true → f ≡ t) → (f ≡ t → r ≡ true) → r ≡ reads f t
 reads-same r f t to fro = same r (reads f t) (λ h. of-reads f t .1 (to (is-true r h))) (λ h. rw (fro (of-reads f t .0 h)) tt)

@@ -1,4 +1,4 @@
--- Laws of numbers in a field: of a walk over its bytes, by what is true of the bytes from place i on or up to it, and the definitions in words.
+-- Laws of numbers in a field: of a loop over its bytes, by what is true of the bytes from place i on or up to it, and the definitions in words.
 use mathlib.Core.Path.{_≡_, refl, ap}
 use mathlib.Core.Logic.{_↔_, _⊎_}
 use mathlib.Core.Bool.{Bool, true, false, not, _&&_, _||_}
@@ -15,7 +15,7 @@ use Rattle.lists.proofs.Reflect.{of-eq, of-le, of-and, of-or, of-not, of-all}
 use Rattle.lists.proofs.Tests.{same}
 use Rattle.text.specs.Numbers.{isDigit, isNumber, valueFrom, valueOf, isDash}
 
--- ---- a walk: a test of some byte, and of each
+-- ---- a loop: a test of some byte, and of each
 pub any-here : (p : ℕ → Bool) (l : List ℕ) (i : ℕ) → i < length l → p (getD l i 0) ≡ true → any p (drop i l) ≡ true
 unfolding any
 any-here p l i h e = rw (drop-cons l i 0 h) (simp e)
@@ -28,7 +28,7 @@ pub any-end : (p : ℕ → Bool) (l : List ℕ) (i : ℕ) → length l ≤ i →
 unfolding any
 any-end p l i h = simp (drop-of-length-le l h)
 
--- ---- a walk: a byte more at the end
+-- ---- a loop: one byte more at the end
 all-snoc : (p : ℕ → Bool) (f : List ℕ) (d : ℕ) → all p (f ++ (d ∷ [])) ≡ (p d && all p f)
 unfolding all
 all-snoc p [] d = refl
@@ -39,7 +39,7 @@ all-snoc p (x ∷ f) d = more (p x) (p d) (all-snoc p f d)
     more false true e = refl
     more false false e = refl
 
--- a digit more is ten times the number and the digit
+-- one digit more: ten times the number, plus the digit
 value-from-snoc : (v : ℕ) (f : List ℕ) (d : ℕ) → valueFrom v (f ++ (d ∷ [])) ≡ valueFrom v f * 10 + (d - 48)
 unfolding valueFrom
 value-from-snoc v [] d = refl
@@ -58,7 +58,7 @@ pub of-digit : (b : ℕ) → T (isDigit b) ↔ ((48 ≤ b) × (b ≤ 57))
 unfolding isDigit
 of-digit b = of-and (leb 48 b) (leb b 57) (of-le 48 b) (of-le b 57)
 
--- with a digit in front the number is not 0, but where that is a 0; a 0 alone is 0
+-- with a digit in front the number is not 0, unless that digit is 0; a 0 alone is 0
 front-more : (x : ℕ) (f : List ℕ) → isDigit x ≡ true → eqb x 48 ≡ false → eqb (valueOf (x ∷ f)) 0 ≡ false
 unfolding valueOf valueFrom
 front-more x f d e =

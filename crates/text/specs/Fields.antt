@@ -5,8 +5,8 @@ use Prim.Native.Nat.{ℕ, zero, suc}
 use lib.Dec.{eqb, ltb}
 
 -- a byte other than tab and 32 to 126
-unfoldable pub isStrange : ℕ → Bool
-isStrange b = not (eqb b 9) && (ltb b 32 || ltb 126 b)
+unfoldable pub isInvalid : ℕ → Bool
+isInvalid b = not (eqb b 9) && (ltb b 32 || ltb 126 b)
 
 -- the bytes before the first tab: all where there is no tab
 unfoldable pub upTo : List ℕ → List ℕ

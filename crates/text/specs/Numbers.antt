@@ -22,7 +22,7 @@ valueFrom v (b ∷ f) = valueFrom (v * 10 + (b - 48)) f
 unfoldable pub valueOf : List ℕ → ℕ
 valueOf f = valueFrom 0 f
 
--- stands for every number from there on: it is above each range that a field has
+-- the cap: it stands for every number from there on, and is above each range that a field has
 abbrev pub most : ℕ
 most = 1_000_000_000_000_000_000
 

@@ -1,4 +1,4 @@
-// The fields of a line are parts of the line itself: what is handed out are the caller's own bytes.
+// The fields of a line: each is returned as a part of the caller's own bytes.
 //
 // A caller reads all the fields of a line in one pass by carrying what is left of it:
 //     let n = number(t);

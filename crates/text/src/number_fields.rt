@@ -1,16 +1,15 @@
-// A field as a number, with the legibility of its bytes, in one walk over them.
-use crate::Numbered;
-use crate::strange_bytes::also_strange;
+// A field as a number, and whether its bytes are valid, in one walk over them.
+use crate::NumberField;
+use crate::TAB;
+use crate::invalid_bytes::or_invalid;
 ghost use mathlib.Core.Path.{_≡_};
-ghost use Rattle.text.specs.Numbered.{numberedOf};
+ghost use Rattle.text.specs.NumberFields.{numberFieldOf};
 
-const TAB: u8 = 9;
-
-// The first field's end, its bytes' legibility, its form as a number and its number, in one walk over its bytes.
-pub fn number(s: &[u8]) -> Numbered
-    ensures { λ r. ⌜ r ≡ numberedOf (now (s .entry)) ⌝ }
+// The first field's end, whether a byte of it is invalid, whether it is a number, and its number, in one walk over its bytes.
+pub fn number(s: &[u8]) -> NumberField
+    ensures { λ r. ⌜ r ≡ numberFieldOf (now (s .entry)) ⌝ }
 {
-    let mut strange = false;
+    let mut any_invalid = false;
     let mut formed = false;
     let mut value: u64 = 0;
     let mut i = 0;
@@ -19,14 +18,14 @@ pub fn number(s: &[u8]) -> Numbered
         if b == TAB {
             break;
         }
-        strange = also_strange(strange, b);
-        formed = crate::numbers::goes_on(i, formed, value, b);
-        value = crate::numbers::capped(value * 10 + crate::numbers::worth(b));
+        any_invalid = or_invalid(any_invalid, b);
+        formed = crate::numbers::is_number_with(i, formed, value, b);
+        value = crate::numbers::capped(value * 10 + crate::numbers::digit_value(b));
         i += 1;
     }
-    Numbered {
+    NumberField {
         length: i,
-        strange,
+        invalid: any_invalid,
         formed,
         value,
     }

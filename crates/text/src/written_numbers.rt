@@ -1,4 +1,4 @@
-// A number's decimal digits into lent bytes: from a place on, all of them or, where they do not fit, nothing. The answer is the place after them.
+// A number's decimal digits put into lent bytes: from a place on, all of them or, where they do not fit, nothing. Returns the place after them.
 ghost use mathlib.Core.Path.{_≡_};
 ghost use Rattle.text.specs.Digits.{digitsOf};
 ghost use Rattle.text.specs.Written.{written, placeAfter};

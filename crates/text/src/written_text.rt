@@ -1,4 +1,4 @@
-// Text into lent bytes: from a place on, all of it or, where it does not fit, nothing. The answer is the place after it.
+// Text put into lent bytes: from a place on, all of it or, where it does not fit, nothing. Returns the place after it.
 ghost use mathlib.Core.Path.{_≡_};
 ghost use mathlib.Core.List.{[], _∷_};
 ghost use Rattle.text.specs.Written.{written, placeAfter};

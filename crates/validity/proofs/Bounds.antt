@@ -1,4 +1,4 @@
--- How large the energies and the daily sums of a filing can be.
+-- Bounds on the energies and daily totals of a filing.
 use mathlib.Core.Path.{_≡_, refl, ap}
 use mathlib.Core.Logic.{⊎-elim}
 use mathlib.Core.Bool.{Bool, true, false, _&&_, _||_}
@@ -14,7 +14,7 @@ use Rattle.lists.specs.Lists.{allAt, firstOf, tab, range, sum}
 use Rattle.lists.proofs.Laws.{length-tab, getD-tab0}
 use Rattle.lists.proofs.Reflect.{of-eq, of-or}
 use Rattle.lists.proofs.Snoc.{allAt-at}
-use Rattle.lists.proofs.Walks.{sum-most}
+use Rattle.lists.proofs.Loops.{sum-most}
 use Rattle.lists.proofs.Ranges.{map-tab, first-found}
 use Rattle.lists.proofs.Tests.{and-right}
 use Rattle.calendar.specs.declared.Years.{Years}
@@ -22,14 +22,14 @@ use Rattle.calendar.specs.Places.{hasDate}
 use Rattle.calendar.specs.Spans.{among, axisYears, yearAt, placeAt}
 use Rattle.meaning.specs.Filing.{Site}
 use Rattle.meaning.specs.Line.{mostDaily}
-use Rattle.meaning.specs.Blocks.{World, readingsOf}
+use Rattle.meaning.specs.Blocks.{Blocks, readingsOf}
 use Rattle.meaning.specs.Record.{historyOfSite, readingsFit, dailyFits}
 use Rattle.readings.specs.Columns.{Columned}
 use Rattle.validity.specs.Columns.{Rising}
 use Rattle.validity.specs.Days.{isAround, around, energyIn, sumBetween, totalIn, ofInterval, energyAt, totalAt, energiesOf, totalsOf}
 use Rattle.validity.proofs.Filed.{Fits, fits}
 
--- what each place of a table is at most, each element is, and so is a missing one
+-- a bound on each place of a table bounds each element, and the default past its end
 table-most : (n m : ℕ) (f : ℕ → ℕ) → ((p : ℕ) → f p ≤ m) → (p : ℕ) → getD (tab n 0 f) p 0 ≤ m
 table-most n m f h p = go (ltb p n) refl
   where
@@ -40,7 +40,7 @@ table-most n m f h p = go (ltb p n) refl
         past : ltb p n ≡ false → length (tab n 0 f) ≤ p
         past q = omega (arith, length-tab n 0 f, ltb-false p n q)
 
--- of an interval that is there, or 0
+-- a bound on a number of each interval, which is 0 where there is none
 interval-most : (ps : List ℕ) (n m : ℕ) (f : ℕ → ℕ) → ((i : ℕ) → i + 1 < n → f i ≤ m) → (p : ℕ) → ofInterval f (around ps n p) ≤ m
 unfolding around
 interval-most ps n m f h p = go (firstOf (isAround ps p) (range 0 (n - 1))) refl
@@ -49,7 +49,7 @@ interval-most ps n m f h p = go (firstOf (isAround ps p) (range 0 (n - 1))) refl
     go none e = omega arith
     go (some i) e = h i (omega (arith, first-found (isAround ps p) (n - 1) 0 i e .1))
 
--- a daily sum that 1 has passed, and a missing one
+-- a daily sum that 1 has checked, and the default past the end
 daily-most : (axis : Years) (ds : List ℕ) → T (dailyFits axis ds) → (p : ℕ) → getD ds p 0 ≤ mostDaily
 unfolding dailyFits
 daily-most axis ds t p = go (ltb p (length ds)) refl
@@ -71,14 +71,14 @@ unfolding sumBetween range
 sum-within ds m a b h =
     omega (arith, sum-most (λ p. getD ds p 0) m h (range a (b - a)), ap sum (map-tab (λ p. getD ds p 0) (b - a) a (λ p. p)), ap (λ (l : ℕ). m * l) (length-tab (b - a) a (λ p. p)))
 
-module _ (t : Site) (n : ℕ) (w : World) {ps xs ks : List ℕ} (cols : Columned w n ps xs ks) (fit : T (readingsFit (axisYears (historyOfSite t)) (readingsOf w n))) where
+module _ (t : Site) (n : ℕ) (w : Blocks) {ps xs ks : List ℕ} (cols : Columned w n ps xs ks) (fit : T (readingsFit (axisYears (historyOfSite t)) (readingsOf w n))) where
   pub energies-most : (p : ℕ) → getD (energiesOf ps xs n) p 0 ≤ 1000000000000
   unfolding energiesOf energyAt energyIn
   energies-most =
       table-most 4392 1000000000000 (energyAt ps xs n)
       (interval-most ps n 1000000000000 (energyIn xs) (λ i h. omega (arith, fits (axisYears (historyOfSite t)) cols fit .most (i + 1) h)))
 
-  -- 4,392 daily sums of 3,145,680
+  -- 4,392 daily sums of at most 3,145,680
   pub totals-most : Rising ps n → T (dailyFits (axisYears (historyOfSite t)) (w .daily)) → (p : ℕ) → getD (totalsOf ps (w .daily) n) p 0 ≤ 13815826560
   unfolding totalsOf totalAt totalIn
   totals-most r d =

@@ -1,4 +1,4 @@
--- The readings of a filing that record and blocks hold, as columns: what 1 says of them, and their intervals by number.
+-- The readings of the filing in record and blocks, as columns: what 1 has checked of them, and their intervals by number.
 use mathlib.Core.Path.{_≡_, refl, ap, _∙_}
 use mathlib.Core.Bool.{Bool, _&&_}
 use mathlib.Core.List.{List, map}
@@ -14,23 +14,23 @@ use Rattle.calendar.proofs.Laws.Positions.{among-words, has-history, axis-bound
 use Rattle.meaning.specs.Filing.{Site, Reading, axisOf, historyOf}
 use Rattle.meaning.specs.Line.{mostIndex, isKind}
 use Rattle.meaning.specs.Validity.{Interval, intervals}
-use Rattle.meaning.specs.Blocks.{World, sizesFit, pointsSize, slotsSize, dailySize, readingsOf}
+use Rattle.meaning.specs.Blocks.{Blocks, sizesFit, pointsSize, slotsSize, dailySize, readingsOf}
 use Rattle.meaning.specs.Record.{Tallies, historyOfSite, readingFits, readingsFit, filingHeld, byYear}
 use Rattle.readings.specs.Columns.{readingIn, readingsIn, Columned}
-use Rattle.validity.specs.Columns.{opens, closes, Rising, Counting}
+use Rattle.validity.specs.Columns.{intervalStart, intervalEnd, Rising, NonDecreasing}
 use Rattle.lists.proofs.Ranges.{all-tab, map-tab, neighbours-tab, each-of-range}
 use Rattle.lists.proofs.Tests.{is-true, and-left, and-right}
 
 abbrev pub intervalOf : List ℕ → List ℕ → List ℕ → ℕ → Interval
 intervalOf ps xs ks i = record { from = readingIn ps xs ks i; to = readingIn ps xs ks (i + 1) }
 
--- ---- what the readings of 1 are like
+-- ---- readings that 1 has checked
 pub record Fits (axis : Years) (ps xs : List ℕ) (n : ℕ) : Type 0 where
   -- a date of an axis year
   pub year : (i : ℕ) → i < n → getD ps i 0 / 366 < axis .count
   pub dated : (i : ℕ) → i < n → T (hasDate (yearAt axis (getD ps i 0)) (placeAt (getD ps i 0)))
-  pub rises : (i : ℕ) → i + 1 < n → opens ps i < closes ps i
-  pub climbs : (i : ℕ) → i + 1 < n → opens xs i ≤ closes xs i
+  pub rises : (i : ℕ) → i + 1 < n → intervalStart ps i < intervalEnd ps i
+  pub climbs : (i : ℕ) → i + 1 < n → intervalStart xs i ≤ intervalEnd xs i
   pub most : (i : ℕ) → i < n → getD xs i 0 ≤ 1000000000000
 
 fit-index : (axis : Years) (r : Reading) → T (readingFits axis r) → r .index ≤ mostIndex
@@ -74,17 +74,17 @@ fits-in axis ps xs ks n t = record {
     in-axis : (i : ℕ) → T (readingFits axis (readingIn ps xs ks i)) → getD ps i 0 / 366 < axis .count
     in-axis i u = unfold yearAt in (omega (arith, among-words axis (yearAt axis (getD ps i 0)) .0 (fit-place axis (readingIn ps xs ks i) u .0)))
 
-    order : (i : ℕ) → T (pair (readingIn ps xs ks i, readingIn ps xs ks (i + 1))) → opens ps i < closes ps i
-    order i u = ltb→lt _ _ (and-left (ltb (opens ps i) (closes ps i)) _ u)
+    order : (i : ℕ) → T (pair (readingIn ps xs ks i, readingIn ps xs ks (i + 1))) → intervalStart ps i < intervalEnd ps i
+    order i u = ltb→lt _ _ (and-left (ltb (intervalStart ps i) (intervalEnd ps i)) _ u)
 
-    count : (i : ℕ) → T (pair (readingIn ps xs ks i, readingIn ps xs ks (i + 1))) → opens xs i ≤ closes xs i
-    count i u = leb→le _ _ (and-right (ltb (opens ps i) (closes ps i)) _ u)
+    count : (i : ℕ) → T (pair (readingIn ps xs ks i, readingIn ps xs ks (i + 1))) → intervalStart xs i ≤ intervalEnd xs i
+    count i u = leb→le _ _ (and-right (ltb (intervalStart ps i) (intervalEnd ps i)) _ u)
 
-pub fits : {w : World} {n : ℕ} {ps xs ks : List ℕ} (axis : Years) → Columned w n ps xs ks → T (readingsFit axis (readingsOf w n)) → Fits axis ps xs n
+pub fits : {w : Blocks} {n : ℕ} {ps xs ks : List ℕ} (axis : Years) → Columned w n ps xs ks → T (readingsFit axis (readingsOf w n)) → Fits axis ps xs n
 fits {n = n} {ps = ps} {xs = xs} {ks = ks} axis cols t = fits-in axis ps xs ks n (rw (cols .read) at t)
 
--- ---- the columns of a site's readings, which the functions ask for
-module _ (t : Site) (n : ℕ) (w : World) {ps xs ks : List ℕ} (cols : Columned w n ps xs ks) (few : n ≤ 600) where
+-- ---- the columns of a site's readings, as the functions require them
+module _ (t : Site) (n : ℕ) (w : Blocks) {ps xs ks : List ℕ} (cols : Columned w n ps xs ks) (few : n ≤ 600) where
   module _ (fit : T (readingsFit (axisYears (historyOfSite t)) (readingsOf w n))) where
     pub columns-rise : Rising ps n
     unfolding historyOfSite
@@ -97,13 +97,13 @@ module _ (t : Site) (n : ℕ) (w : World) {ps xs ks : List ℕ} (cols : Columned
           rises = f .rises;
         }
 
-    pub columns-count : Counting xs n
+    pub columns-count : NonDecreasing xs n
     columns-count = record { held = omega (arith, cols .indexes); climbs = fits (axisYears (historyOfSite t)) cols fit .climbs }
 
   pub columns-kinds : n ≤ length ks
   columns-kinds = omega (arith, cols .kinds)
 
-pub columns-daily : (w : World) → T (sizesFit w) → length (w .daily) ≡ 4392
+pub columns-daily : (w : Blocks) → T (sizesFit w) → length (w .daily) ≡ 4392
 unfolding sizesFit
 columns-daily w t =
     let a = and-right (eqb (length (w .near)) pointsSize) _ t in
@@ -111,8 +111,8 @@ columns-daily w t =
     let c = and-right (eqb (length (w .slots)) slotsSize) _ b in
     eqb→eq _ _ (and-left (eqb (length (w .daily)) dailySize) _ c)
 
--- ---- years of a filing held
-module _ (t : Site) (n : ℕ) (k : Tallies) (e : Bool) (w : World) where
+-- ---- the years of the filing in record and blocks
+module _ (t : Site) (n : ℕ) (k : Tallies) (e : Bool) (w : Blocks) where
   pub history-held : historyOf (filingHeld t n k e w) ≡ historyOfSite t
   unfolding historyOf historyOfSite filingHeld
   history-held = refl
@@ -134,7 +134,7 @@ pub axis-row : (t : Site) (j : ℕ) → j < historyOfSite t .count → axisYears
 unfolding historyOfSite
 axis-row t j h = axis-bounds (t .al) (t .filiere) (has-history (t .al) (t .filiere) (λ z. omega arith)) .starts
 
--- a number by year, at the j-th of a span
+-- a number by year, for the j-th year of a span
 pub by-year : (span : Years) (ns : List ℕ) (j : ℕ) → j < span .count → byYear span ns (span .first + j) ≡ getD ns j 0
 unfolding byYear
 by-year span ns j h = rw (is-true (among span (span .first + j)) (among-words span (span .first + j) .1 (omega arith, omega arith))) (ap (λ (i : ℕ). getD ns i 0) row)

@@ -1,4 +1,4 @@
--- The curve years of a filing that blocks hold, in terms of its rows.
+-- The curve years of the filing in record and blocks, by its rows.
 use mathlib.Core.Path.{_≡_, refl, ap, sym, _∙_}
 use mathlib.Core.Bool.{Bool, true, false, _&&_, not, cond}
 use mathlib.Core.List.{List, map}
@@ -18,10 +18,10 @@ use Rattle.note.proofs.PeakDays.{each-winter}
 use Rattle.note.proofs.History.{known}
 use Rattle.meaning.specs.Filing.{Site}
 use Rattle.meaning.specs.Validity.{presentPoints, expectedPoints, enough, curveValid}
-use Rattle.meaning.specs.Blocks.{World, missingPoint, rowSize, isNear, nearStart, farStart, slotAt, codeAt, pointOfCode}
+use Rattle.meaning.specs.Blocks.{Blocks, missingPoint, rowSize, isNear, nearStart, farStart, slotAt, codeAt, pointOfCode}
 use Rattle.meaning.specs.Record.{Tallies, historyOfSite, pointHeld, filingHeld}
 use Rattle.blocks.specs.Rows.{holdsYear, part, rowOf}
-use Rattle.validity.specs.Availability.{isThere, thereOnDay, thereIn, validRow}
+use Rattle.validity.specs.Availability.{isPresent, presentOnDay, presentInRow, validRow}
 
 -- ---- sums and counts that agree at each element
 sum-each : {A : Type 0} (f g : A → ℕ) {xs : List A} → Each (λ x. f x ≡ g x) xs → sum (map f xs) ≡ sum (map g xs)
@@ -34,7 +34,7 @@ unfolding tab count
 count-tab p q zero i h = refl
 count-tab p q (suc n) i h = rw (h i (omega arith)) (ap (λ (c : ℕ). cond (q i) (suc c) c) (count-tab p q n (suc i) (λ k j. h k (omega arith))))
 
--- ---- the years that the blocks hold are those of every history
+-- ---- the blocks have the years of every history
 pub history-held : (al f y : ℕ) → T (among (historyYears al f) y) → holdsYear al y ≡ true
 unfolding holdsYear
 history-held al f y t =
@@ -45,8 +45,8 @@ history-held al f y t =
     let c = history-short al f k in
     rw (le-leb 2021 al (omega arith), le-leb al 2026 (omega arith), le-leb (al - 14) y (omega arith), le-leb y (al - 5) (omega arith))
 
--- ---- a row's place is the block's
-row-code : (al : ℕ) (b : World) (y w h : ℕ) → holdsYear al y ≡ true → w < 152 → h < 20 → getD (rowOf al (b .near) (b .far) y) (slotAt w h) missingPoint ≡ codeAt al b y w h
+-- ---- a place of a row in its block
+row-code : (al : ℕ) (b : Blocks) (y w h : ℕ) → holdsYear al y ≡ true → w < 152 → h < 20 → getD (rowOf al (b .near) (b .far) y) (slotAt w h) missingPoint ≡ codeAt al b y w h
 unfolding rowOf part codeAt slotAt
 row-code al b y w h e i j = rw e (go (isNear al y))
   where
@@ -66,27 +66,27 @@ some-code v = go (eqb v missingPoint)
     go true = refl
     go false = refl
 
-module _ (t : Site) (n : ℕ) (k : Tallies) (e : Bool) (b : World) (y : ℕ) (m : T (among (historyOfSite t) y)) where
+module _ (t : Site) (n : ℕ) (k : Tallies) (e : Bool) (b : Blocks) (y : ℕ) (m : T (among (historyOfSite t) y)) where
   held-year : holdsYear (t .al) y ≡ true
   unfolding historyOfSite
   held-year = history-held (t .al) (t .filiere) y m
 
-  -- the point that a filing has is the one in the year's row
+  -- a point of the filing is the one in the year's row
   pub point-is : (w h : ℕ) → w < 152 → h < 20 → filingHeld t n k e b .point y w h ≡ pointOfCode (getD (rowOf (t .al) (b .near) (b .far) y) (slotAt w h) missingPoint)
   unfolding filingHeld pointHeld
   point-is w h i j = rw (is-true (among (historyOfSite t) y) m, lt-ltb w 152 i, lt-ltb h 20 j) (ap pointOfCode (sym (row-code (t .al) b y w h held-year i j)))
 
-  there-is : (w h : ℕ) → w < 152 → h < 20 → isSome (filingHeld t n k e b .point y w h) ≡ isThere (rowOf (t .al) (b .near) (b .far) y) w h
-  unfolding isThere
+  there-is : (w h : ℕ) → w < 152 → h < 20 → isSome (filingHeld t n k e b .point y w h) ≡ isPresent (rowOf (t .al) (b .near) (b .far) y) w h
+  unfolding isPresent
   there-is w h i j = ap isSome (point-is w h i j) ∙ some-code (getD (rowOf (t .al) (b .near) (b .far) y) (slotAt w h) missingPoint)
 
-  pub present-is : presentPoints (filingHeld t n k e b) y ≡ thereIn (rowOf (t .al) (b .near) (b .far) y) y
-  unfolding presentPoints thereIn thereOnDay range
+  pub present-is : presentPoints (filingHeld t n k e b) y ≡ presentInRow (rowOf (t .al) (b .near) (b .far) y) y
+  unfolding presentPoints presentInRow presentOnDay range
   present-is =
-      sum-each (λ w. count (λ h. isSome (filingHeld t n k e b .point y w h)) (tab 20 0 (λ h. h))) (λ w. count (isThere (rowOf (t .al) (b .near) (b .far) y) w) (tab 20 0 (λ h. h)))
-      (each-map (λ w i. count-tab (λ h. isSome (filingHeld t n k e b .point y w h)) (isThere (rowOf (t .al) (b .near) (b .far) y) w) 20 0 (λ h j. there-is w h i (omega arith))) (each-winter y))
+      sum-each (λ w. count (λ h. isSome (filingHeld t n k e b .point y w h)) (tab 20 0 (λ h. h))) (λ w. count (isPresent (rowOf (t .al) (b .near) (b .far) y) w) (tab 20 0 (λ h. h)))
+      (each-map (λ w i. count-tab (λ h. isSome (filingHeld t n k e b .point y w h)) (isPresent (rowOf (t .al) (b .near) (b .far) y) w) 20 0 (λ h j. there-is w h i (omega arith))) (each-winter y))
 
-  -- a curve year of a filing is valid where its row is
+  -- a curve year of the filing is valid where its row is
   pub valid-is : curveValid (filingHeld t n k e b) y ≡ validRow (rowOf (t .al) (b .near) (b .far) y) y (filingHeld t n k e b .broken y)
   unfolding curveValid validRow
   valid-is = ap (λ (c : ℕ). not (filingHeld t n k e b .broken y) && enough c (expectedPoints y)) present-is

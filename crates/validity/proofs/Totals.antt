@@ -1,4 +1,4 @@
--- The energy and the daily sums of a filing's interval around a day are those that the columns give at its position.
+-- Energy and daily total of the interval around a day of the filing are those by position.
 use mathlib.Core.Path.{_≡_, refl, ap, ap₂, sym, subst, _∙_}
 use mathlib.Core.Bool.{Bool}
 use mathlib.Core.List.{List}
@@ -17,16 +17,16 @@ use Rattle.calendar.proofs.Laws.Winter.{winter-place-day}
 use Rattle.meaning.specs.Filing.{Site, yearOf, dailyAt}
 use Rattle.meaning.specs.Validity.{Interval, intervals, hasDay, energyOf, totalBetween, totalOf}
 use Rattle.meaning.specs.Points.{byProfile, positionAt, intervalAt, profiledIn, profiledAt}
-use Rattle.meaning.specs.Blocks.{World, readingsOf}
+use Rattle.meaning.specs.Blocks.{Blocks, readingsOf}
 use Rattle.meaning.specs.Record.{Tallies, historyOfSite, readingsFit, dailyHeld, filingHeld}
 use Rattle.readings.specs.Columns.{Columned}
-use Rattle.validity.specs.Columns.{opens, closes}
+use Rattle.validity.specs.Columns.{intervalStart, intervalEnd}
 use Rattle.validity.specs.Days.{isAround, around, energyIn, sumBetween, totalIn, ofInterval, energyAt, totalAt, energiesOf, totalsOf}
 use Rattle.lists.proofs.Ranges.{through, first-tab, first-found, sum-same}
 use Rattle.lists.proofs.Tests.{is-true}
 use Rattle.validity.proofs.Filed.{intervalOf, fits, axis-held, intervals-held, axis-row}
 
-module _ (t : Site) (n : ℕ) (k : Tallies) (e : Bool) (w : World) where
+module _ (t : Site) (n : ℕ) (k : Tallies) (e : Bool) (w : Blocks) where
   -- ---- daily sums
   daily-held : (p : ℕ) → p < 366 * axisYears (historyOfSite t) .count → dailyAt (filingHeld t n k e w) p ≡ getD (w .daily) p 0
   unfolding dailyAt yearOf
@@ -43,7 +43,7 @@ module _ (t : Site) (n : ℕ) (k : Tallies) (e : Bool) (w : World) where
     pub total-held : (i : ℕ) → i + 1 < n → totalOf (filingHeld t n k e w) (intervalOf ps xs ks i) ≡ totalIn ps (w .daily) i
     unfolding totalOf totalBetween totalIn sumBetween
     total-held i h =
-        sum-same (closes ps i - opens ps i) (opens ps i) (dailyAt (filingHeld t n k e w)) (λ p. getD (w .daily) p 0)
+        sum-same (intervalEnd ps i - intervalStart ps i) (intervalStart ps i) (dailyAt (filingHeld t n k e w)) (λ p. getD (w .daily) p 0)
         (λ p a b. daily-held p (omega (arith, fits (axisYears (historyOfSite t)) cols fit .year (i + 1) h, fits (axisYears (historyOfSite t)) cols fit .rises i h)))
 
     energy-held : (i : ℕ) → energyOf (intervalOf ps xs ks i) ≡ energyIn xs i
@@ -70,7 +70,7 @@ module _ (t : Site) (n : ℕ) (k : Tallies) (e : Bool) (w : World) where
     unfolding intervalAt
     interval-held y v = around-held (positionAt (filingHeld t n k e w) y v)
 
-    -- the point that it is profiled to
+    -- the profiled point
     pub profiled-held : (y v h : ℕ) → positionAt (filingHeld t n k e w) y v < 4392
         → profiledAt (filingHeld t n k e w) y v h
         ≡ byProfile (getD (energiesOf ps xs n) (positionAt (filingHeld t n k e w) y v) 0) (filingHeld t n k e w .profile y v h) (getD (totalsOf ps (w .daily) n) (positionAt (filingHeld t n k e w) y v) 0)
@@ -89,8 +89,8 @@ module _ (t : Site) (n : ℕ) (k : Tallies) (e : Bool) (w : World) where
       rw (axis-held t n k e w)
       (omega (arith, axis-row t j h, history-short (t .al) (t .filiere) (has-history (t .al) (t .filiere) (λ z. omega arith)), winter-place-day v l .below))
 
--- so of a history year's winter place
-pub profiled-year : (t : Site) (n : ℕ) (k : Tallies) (e : Bool) (w : World) {ps xs ks : List ℕ} → Columned w n ps xs ks → T (readingsFit (axisYears (historyOfSite t)) (readingsOf w n)) → (y v h : ℕ) → T (among (historyOfSite t) y) → v < 152
+-- the same for a winter place of a history year
+pub profiled-year : (t : Site) (n : ℕ) (k : Tallies) (e : Bool) (w : Blocks) {ps xs ks : List ℕ} → Columned w n ps xs ks → T (readingsFit (axisYears (historyOfSite t)) (readingsOf w n)) → (y v h : ℕ) → T (among (historyOfSite t) y) → v < 152
     → profiledAt (filingHeld t n k e w) y v h
     ≡ byProfile (getD (energiesOf ps xs n) (positionAt (filingHeld t n k e w) y v) 0) (filingHeld t n k e w .profile y v h) (getD (totalsOf ps (w .daily) n) (positionAt (filingHeld t n k e w) y v) 0)
 profiled-year t n k e w cols fit y v h a l =

@@ -1,11 +1,11 @@
--- A filing's valid index years are those of the columns.
+-- The filing's valid index years are those from the columns.
 use mathlib.Core.Path.{_≡_, ap, _∙_}
 use mathlib.Core.Logic.{_↔_, _⊎_, inl, inr}
 use mathlib.Core.Bool.{Bool, true, false, not, _&&_, _||_}
 use mathlib.Core.List.{List}
 use Prim.Native.Nat.{ℕ, zero, suc, _+_, _-_, _*_, _≤_, _<_}
 use native.Mathlib.Omega.{arith}
-use lib.Dec.{T, eqb, leb, ltb}
+use lib.Dec.{T, leb, ltb}
 use lib.ListN.{getD}
 use Rattle.lists.specs.Lists.{any, all, tab, range}
 use Rattle.lists.proofs.Reflect.{of-and, of-le, of-lt}
@@ -14,23 +14,23 @@ use Rattle.calendar.specs.Spans.{axisYears, placeAt}
 use Rattle.calendar.proofs.Tables.{given, tri}
 use Rattle.meaning.specs.Filing.{Site, Filing, axisOf, yearOf}
 use Rattle.meaning.specs.Validity.{intervals, hasDay, isWinterDay, overlapsWinter, winterDays, isCovered, isSound, indexValid}
-use Rattle.meaning.specs.Blocks.{World, readingsOf}
+use Rattle.meaning.specs.Blocks.{Blocks, readingsOf}
 use Rattle.meaning.specs.Record.{Tallies, historyOfSite, readingsFit, filingHeld}
 use Rattle.readings.specs.Columns.{Columned}
-use Rattle.validity.specs.Columns.{opens, closes, january, meetsWinter, isSet, Rising, isTrustedAt}
+use Rattle.validity.specs.Columns.{intervalStart, intervalEnd, yearStart, meetsWinter, Rising, isTrustedAt}
 use Rattle.validity.specs.Index.{coversYear, isSoundAt, isSoundYear, validIndex}
 use Rattle.validity.specs.Days.{isAround}
 use Rattle.lists.proofs.Ranges.{any-tab, all-tab, all-keep, all-same, some-of-range, range-some, each-of-range, range-each}
 use Rattle.lists.proofs.Tests.{same, and-made}
 use Rattle.validity.proofs.Fills.{later}
 use Rattle.validity.proofs.Winter.{InWinter, dated-at, dated-late, winter-day, overlap-by-ends}
-use Rattle.validity.proofs.Filed.{intervalOf, fits, axis-held, intervals-held, axis-row, by-year}
+use Rattle.validity.proofs.Filed.{intervalOf, fits, axis-held, intervals-held, axis-row}
 
-pub around-words : (ps : List ℕ) (p i : ℕ) → T (isAround ps p i) ↔ ((opens ps i ≤ p) × (p < closes ps i))
+pub around-words : (ps : List ℕ) (p i : ℕ) → T (isAround ps p i) ↔ ((intervalStart ps i ≤ p) × (p < intervalEnd ps i))
 unfolding isAround
-around-words ps p i = of-and (leb (opens ps i) p) (ltb p (closes ps i)) (of-le (opens ps i) p) (of-lt p (closes ps i))
+around-words ps p i = of-and (leb (intervalStart ps i) p) (ltb p (intervalEnd ps i)) (of-le (intervalStart ps i) p) (of-lt p (intervalEnd ps i))
 
--- ---- neighbours make a chain: what lies between the first and the last reading has an interval around it
+-- ---- neighbours make a chain: each position between the first and the last reading has an interval around it
 around-some : (ps : List ℕ) (p m : ℕ) → getD ps 0 0 ≤ p → p < getD ps m 0 → T (any (isAround ps p) (range 0 m))
 around-some ps p zero h l = absurd (omega arith)
 around-some ps p (suc m) h l = go (tri p (getD ps m 0)) (λ a. around-some ps p m h a)
@@ -57,7 +57,7 @@ unless : (a b : Bool) → (T a → T b) → T (not a || b)
 unless true b f = f tt
 unless false b f = tt
 
--- ---- cover, by the first reading and the last
+-- ---- coverage, by the first reading and the last
 module _ (F : Filing) (ps xs ks : List ℕ) (n y s : ℕ) (r : Rising ps n) (from : axisOf F .first ≤ y) (row : s ≡ 366 * (y - axisOf F .first)) (read : intervals F ≡ tab (n - 1) 0 (intervalOf ps xs ks)) where
   around-day : (p : ℕ) → any (λ v. hasDay v p) (intervals F) ≡ any (isAround ps p) (range 0 (n - 1))
   unfolding hasDay isAround
@@ -87,9 +87,9 @@ module _ (F : Filing) (ps xs ks : List ℕ) (n y s : ℕ) (r : Rising ps n) (fro
       last-place : placeAt (s + 365) ≡ 365
       last-place = unfold placeAt in omega arith
 
-      -- a winter day that each covered year has is around some interval
+      -- each winter day of a covered year has an interval around it
       at-day : T (all (λ p. not (days-test p) || any (λ v. hasDay v p) (intervals F)) (range (366 * (y - axisOf F .first)) 366))
-          → (p : ℕ) → s ≤ p → p < s + 366 → T (hasDate y (placeAt p)) → InWinter s p → (i : ℕ) × (i + 1 < n) × (opens ps i ≤ p) × (p < closes ps i)
+          → (p : ℕ) → s ≤ p → p < s + 366 → T (hasDate y (placeAt p)) → InWinter s p → (i : ℕ) × (i + 1 < n) × (intervalStart ps i ≤ p) × (p < intervalEnd ps i)
       at-day t p h l d q =
           let u = each-of-range (λ z. not (days-test z) || any (λ v. hasDay v z) (intervals F)) 366 (366 * (y - axisOf F .first)) t p (omega arith) (omega arith) in
           let b = given (days-test p) (any (λ v. hasDay v p) (intervals F)) u (and-made (hasDate y (placeAt p)) (isWinterDay F y p) d (winter-day F y s from row p .1 q)) in
@@ -115,38 +115,34 @@ module _ (F : Filing) (ps xs ks : List ℕ) (n y s : ℕ) (r : Rising ps n) (fro
           range-each (λ p. not (days-test p) || any (λ v. hasDay v p) (intervals F)) 366 (366 * (y - axisOf F .first))
           (λ p g l. unless (days-test p) (any (λ v. hasDay v p) (intervals F)) (λ t. rw (around-day p) (around-some ps p (n - 1) (omega arith) (omega arith))))
 
--- ---- the law
--- a reading stands on a day that there is
-pub dated-held : (t : Site) (n : ℕ) (k : Tallies) (e : Bool) (w : World) {ps xs ks : List ℕ} → Columned w n ps xs ks → T (readingsFit (axisYears (historyOfSite t)) (readingsOf w n)) → (i : ℕ) → i < n
+-- ---- valid index years
+-- a reading is on a date that exists
+pub dated-held : (t : Site) (n : ℕ) (k : Tallies) (e : Bool) (w : Blocks) {ps xs ks : List ℕ} → Columned w n ps xs ks → T (readingsFit (axisYears (historyOfSite t)) (readingsOf w n)) → (i : ℕ) → i < n
     → T (hasDate (yearOf (filingHeld t n k e w) (getD ps i 0)) (placeAt (getD ps i 0)))
 unfolding yearOf
 dated-held t n k e w cols fit i h = rw (axis-held t n k e w) (fits (axisYears (historyOfSite t)) cols fit .dated i h)
 
-module _ (t : Site) (n : ℕ) (k : Tallies) (e : Bool) (w : World) {ps xs ks : List ℕ} (cols : Columned w n ps xs ks) (rise : Rising ps n) (fit : T (readingsFit (axisYears (historyOfSite t)) (readingsOf w n))) (j : ℕ) (year : j < historyOfSite t .count) where
+module _ (t : Site) (n : ℕ) (k : Tallies) (e : Bool) (w : Blocks) {ps xs ks : List ℕ} (cols : Columned w n ps xs ks) (rise : Rising ps n) (fit : T (readingsFit (axisYears (historyOfSite t)) (readingsOf w n))) (j : ℕ) (year : j < historyOfSite t .count) where
   in-axis : axisOf (filingHeld t n k e w) .first ≤ historyOfSite t .first + j
   in-axis = rw (axis-held t n k e w) (omega (arith, axis-row t j year))
 
-  in-row : january j ≡ 366 * (historyOfSite t .first + j - axisOf (filingHeld t n k e w) .first)
+  in-row : yearStart j ≡ 366 * (historyOfSite t .first + j - axisOf (filingHeld t n k e w) .first)
   in-row = rw (axis-held t n k e w) (omega (arith, axis-row t j year))
 
-  -- an interval of the columns overlaps the winter by its ends
-  pub overlap-held : (i : ℕ) → i + 1 < n → overlapsWinter (filingHeld t n k e w) (historyOfSite t .first + j) (intervalOf ps xs ks i) ≡ meetsWinter (january j) (opens ps i) (closes ps i)
+  -- whether an interval of the columns overlaps winter, by its ends
+  pub overlap-held : (i : ℕ) → i + 1 < n → overlapsWinter (filingHeld t n k e w) (historyOfSite t .first + j) (intervalOf ps xs ks i) ≡ meetsWinter (yearStart j) (intervalStart ps i) (intervalEnd ps i)
   overlap-held i h =
-      overlap-by-ends (filingHeld t n k e w) (historyOfSite t .first + j) (january j) in-axis in-row (intervalOf ps xs ks i) (rise .rises i h) (dated-held t n k e w cols fit i (omega arith))
+      overlap-by-ends (filingHeld t n k e w) (historyOfSite t .first + j) (yearStart j) in-axis in-row (intervalOf ps xs ks i) (rise .rises i h) (dated-held t n k e w cols fit i (omega arith))
 
-  sound-held : all (λ v. not (overlapsWinter (filingHeld t n k e w) (historyOfSite t .first + j) v) || isSound v) (intervals (filingHeld t n k e w)) ≡ isSoundYear ps ks n (january j)
+  sound-held : all (λ v. not (overlapsWinter (filingHeld t n k e w) (historyOfSite t .first + j) v) || isSound v) (intervals (filingHeld t n k e w)) ≡ isSoundYear ps ks n (yearStart j)
   unfolding isSoundYear isSoundAt isTrustedAt isSound
   sound-held =
       rw (intervals-held t n k e w cols)
       (all-tab (λ v. not (overlapsWinter (filingHeld t n k e w) (historyOfSite t .first + j) v) || isSound v) (n - 1) 0 (intervalOf ps xs ks)
-      ∙ all-same (λ i. not (overlapsWinter (filingHeld t n k e w) (historyOfSite t .first + j) (intervalOf ps xs ks i)) || isSound (intervalOf ps xs ks i)) (isSoundAt ps ks (january j)) (n - 1) 0
+      ∙ all-same (λ i. not (overlapsWinter (filingHeld t n k e w) (historyOfSite t .first + j) (intervalOf ps xs ks i)) || isSound (intervalOf ps xs ks i)) (isSoundAt ps ks (yearStart j)) (n - 1) 0
       (λ i a b. ap (λ (o : Bool). not o || isSound (intervalOf ps xs ks i)) (overlap-held i (omega arith))))
 
-  broken-held : filingHeld t n k e w .broken (historyOfSite t .first + j) ≡ isSet (k .breaks) j
-  unfolding filingHeld isSet
-  broken-held = ap (λ (b : ℕ). not (eqb b 0)) (by-year (historyOfSite t) (k .breaks) j year)
-
-  pub index-valid-held : indexValid (filingHeld t n k e w) (historyOfSite t .first + j) ≡ validIndex ps ks n j (isSet (k .breaks) j)
+  pub index-valid-held : indexValid (filingHeld t n k e w) (historyOfSite t .first + j) ≡ validIndex ps ks n j (filingHeld t n k e w .broken (historyOfSite t .first + j))
   unfolding indexValid validIndex
   index-valid-held =
-      rw (broken-held, covered-by-ends (filingHeld t n k e w) ps xs ks n (historyOfSite t .first + j) (january j) rise in-axis in-row (intervals-held t n k e w cols), sound-held)
+      rw (covered-by-ends (filingHeld t n k e w) ps xs ks n (historyOfSite t .first + j) (yearStart j) rise in-axis in-row (intervals-held t n k e w cols), sound-held)

@@ -1,4 +1,4 @@
--- Which intervals have a winter day of a year, and which touch a year, by their ends.
+-- Which intervals have a winter day of a year, and which touch the year, by their ends.
 use mathlib.Core.Path.{_≡_}
 use mathlib.Core.Logic.{_↔_, _⊎_, inl, inr}
 use mathlib.Core.Bool.{Bool, _&&_, _||_, Bool·beq}
@@ -19,12 +19,12 @@ use Rattle.validity.specs.Columns.{meetsWinter}
 use Rattle.lists.proofs.Ranges.{any-keep, some-of-range, range-some}
 use Rattle.lists.proofs.Tests.{same, and-right, and-made}
 
--- ---- winter's date places
+-- ---- the date places of winter
 winter-test : ℕ → Bool
 unfolding isWinter monthLengths before monthOf sum count
 winter-test q = Bool·beq (isWinter (monthOf q)) (ltb q 91 || leb 305 q)
 
--- 91 from 1 January on, and those from 1 November, 305, on
+-- the 91 from 1 January on, and those from 1 November, place 305, on
 winter-places : (q : ℕ) → q < 366 → isWinter (monthOf q) ≡ (ltb q 91 || leb 305 q)
 unfolding winter-test
 winter-places q h = beq→eq (isWinter (monthOf q)) (ltb q 91 || leb 305 q) (at winter-test 366 tt q h)
@@ -33,7 +33,7 @@ winter-place-words : (q : ℕ) → q < 366 → T (isWinter (monthOf q)) ↔ ((q 
 winter-place-words q h = rw (winter-places q h) (of-or (ltb q 91) (leb 305 q) (of-lt q 91) (of-le 305 q))
 
 -- ---- the days of a year whose 1 January is at s
--- of both periods
+-- in winter
 abbrev pub InWinter : ℕ → ℕ → Type 0
 InWinter s p = ((s ≤ p) × (p < s + 91)) ⊎ ((s + 305 ≤ p) × (p < s + 366))
 
@@ -62,7 +62,7 @@ module _ (F : Filing) (y s : ℕ) (from : axisOf F .first ≤ y) (row : s ≡ 36
       back (inl h) = parts .1 (omega arith, inl (omega arith))
       back (inr h) = parts .1 (omega arith, inr (omega arith))
 
-  -- the days of an interval that passes a test
+  -- a day of an interval that passes a test
   some-day : (v : Interval) (t : ℕ → Bool) → T (any t (daysOf F v))
       → (p : ℕ) × (v .from .position ≤ p) × (p < v .to .position) × T (t p)
   unfolding daysOf
@@ -81,7 +81,7 @@ module _ (F : Filing) (y s : ℕ) (from : axisOf F .first ≤ y) (row : s ≡ 36
       let b = v .to .position in
       rw (any-keep t q (range a (b - a))) (range-some (λ r. q r && t r) (b - a) a p h (omega arith) (and-made (q p) (t p) d u))
 
-  -- an interval in order, from a day that there is
+  -- an interval in order, from a date that exists
   module _ (v : Interval) (order : v .from .position < v .to .position) (dated : T (hasDate (yearOf F (v .from .position)) (placeAt (v .from .position)))) where
     pub overlap-by-ends : overlapsWinter F y v ≡ meetsWinter s (v .from .position) (v .to .position)
     unfolding overlapsWinter meetsWinter
@@ -107,7 +107,7 @@ module _ (F : Filing) (y s : ℕ) (from : axisOf F .first ≤ y) (row : s ≡ 36
             go p h l (inl q) = inl (omega arith, omega arith)
             go p h l (inr q) = inr (omega arith, omega arith)
 
-        -- the period's first day, or the interval's own
+        -- the first day of the period, or of the interval
         here : (p : ℕ) → a ≤ p → p < b → T (hasDate (yearOf F p) (placeAt p)) → InWinter s p → T (any (isWinterDay F y) (daysOf F v))
         here p h l d q = day-some v (isWinterDay F y) p h l d (winter-day p .1 q)
 

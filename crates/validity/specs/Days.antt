@@ -1,4 +1,4 @@
--- What the interval around a day says of it: its E and its daily sums, 0 where there is none (document 01, Cases, 1 and P).
+-- E and daily total of the interval around a day, 0 where there is none (document 01, Cases, 1 and P).
 use mathlib.Core.Bool.{Bool, _&&_}
 use mathlib.Core.List.{List}
 use mathlib.Core.Option.{Option, some, none}
@@ -6,27 +6,27 @@ use Prim.Native.Nat.{ℕ, _-_}
 use lib.Dec.{leb, ltb}
 use lib.ListN.{getD}
 use Rattle.lists.specs.Lists.{firstOf, range, tab, sum}
-use Rattle.validity.specs.Columns.{opens, closes}
+use Rattle.validity.specs.Columns.{intervalStart, intervalEnd}
 
--- the interval around a position
+-- an interval is around a position
 unfoldable pub isAround : List ℕ → ℕ → ℕ → Bool
-isAround ps p i = leb (opens ps i) p && ltb p (closes ps i)
+isAround ps p i = leb (intervalStart ps i) p && ltb p (intervalEnd ps i)
 
 unfoldable pub around : List ℕ → ℕ → ℕ → Option ℕ
 around ps n p = firstOf (isAround ps p) (range 0 (n - 1))
 
 -- E, the difference of the two readings
 unfoldable pub energyIn : List ℕ → ℕ → ℕ
-energyIn xs i = closes xs i - opens xs i
+energyIn xs i = intervalEnd xs i - intervalStart xs i
 
--- the daily sums from a to the one before b
+-- the total of the daily sums from a to the one before b
 unfoldable pub sumBetween : List ℕ → ℕ → ℕ → ℕ
 sumBetween ds a b = sum (tab (b - a) a (λ p. getD ds p 0))
 
 unfoldable pub totalIn : List ℕ → List ℕ → ℕ → ℕ
-totalIn ps ds i = sumBetween ds (opens ps i) (closes ps i)
+totalIn ps ds i = sumBetween ds (intervalStart ps i) (intervalEnd ps i)
 
--- what is said of an interval, where there is one
+-- a number of an interval, 0 where there is none
 abbrev pub ofInterval : (ℕ → ℕ) → Option ℕ → ℕ
 ofInterval f none = 0
 ofInterval f (some i) = f i
@@ -37,7 +37,7 @@ energyAt ps xs n p = ofInterval (energyIn xs) (around ps n p)
 unfoldable pub totalAt : List ℕ → List ℕ → ℕ → ℕ → ℕ
 totalAt ps ds n p = ofInterval (totalIn ps ds) (around ps n p)
 
--- the axis's 4,392 places, by position
+-- at the 4,392 places of the axis, by position
 unfoldable pub energiesOf : List ℕ → List ℕ → ℕ → List ℕ
 energiesOf ps xs n = tab 4392 0 (energyAt ps xs n)
 

@@ -1,11 +1,11 @@
-// The availability of a year's row of points, and whether its curve is valid.
+// The number of peak points in a year's row, and whether its curve is valid.
 use blocks::HALF_HOURS;
 use blocks::NO_POINT;
 ghost use mathlib.Core.Path.{_≡_};
 ghost use Prim.Native.Nat.{_<_};
 ghost use lib.ListN.{getD};
 ghost use Rattle.note.specs.Peaks.{peakCount, peakDays};
-ghost use Rattle.validity.specs.Availability.{isThere, thereOnDay, availabilityOf, validRow};
+ghost use Rattle.validity.specs.Availability.{isPresent, presentOnDay, availabilityOf, validRow};
 use blocks::row;
 use note::PeakDay;
 
@@ -15,9 +15,9 @@ pub(crate) struct Counts {
     pub expected: usize,
 }
 
-fn there(row: &[u32], w: usize, h: usize) -> bool
+fn is_present(row: &[u32], w: usize, h: usize) -> bool
     requires { ⌜ (w < 152) × (h < 20) ⌝ }
-    ensures { λ r. ⌜ r ≡ isThere (now (row .entry)) w h ⌝ }
+    ensures { λ r. ⌜ r ≡ isPresent (now (row .entry)) w h ⌝ }
 {
     let i = HALF_HOURS * w + h;
     if row.len() <= i {
@@ -26,15 +26,15 @@ fn there(row: &[u32], w: usize, h: usize) -> bool
     row[i] != NO_POINT
 }
 
-// How many points of a day are there.
-fn there_on_day(row: &[u32], w: usize) -> usize
+// The number of points present on a day.
+fn present_on_day(row: &[u32], w: usize) -> usize
     requires { ⌜ w < 152 ⌝ }
-    ensures { λ r. ⌜ r ≡ thereOnDay (now (row .entry)) w ⌝ }
+    ensures { λ r. ⌜ r ≡ presentOnDay (now (row .entry)) w ⌝ }
 {
     let mut n = 0;
     let mut h = 0;
     while h < HALF_HOURS {
-        if there(row, w, h) {
+        if is_present(row, w, h) {
             n += 1;
         }
         h += 1;
@@ -42,18 +42,18 @@ fn there_on_day(row: &[u32], w: usize) -> usize
     n
 }
 
-// The same of the year's k-th peak day.
-fn there_on_peak_day(row: &[u32], year: u64, k: usize) -> usize
+// The same for the year's k-th peak day.
+fn present_on_peak_day(row: &[u32], year: u64, k: usize) -> usize
     requires { ⌜ k < peakCount year ⌝ }
-    ensures { λ r. ⌜ r ≡ thereOnDay (now (row .entry)) (getD (peakDays year) k 0) ⌝ }
+    ensures { λ r. ⌜ r ≡ presentOnDay (now (row .entry)) (getD (peakDays year) k 0) ⌝ }
 {
     match note::peak_day(year, k) {
-        PeakDay::Place(w) => there_on_day(row, w),
+        PeakDay::Place(w) => present_on_day(row, w),
         PeakDay::Nothing => 0,
     }
 }
 
-// Both counts in one walk over the year's peak days, whatever they hold.
+// Both counts, in one pass over the peak days, for any row.
 pub(crate) fn availability(row: &[u32], year: u64) -> Counts
     ensures { λ r. ⌜ r ≡ availabilityOf (now (row .entry)) year ⌝ }
 {
@@ -61,7 +61,7 @@ pub(crate) fn availability(row: &[u32], year: u64) -> Counts
     let mut present = 0;
     let mut k = 0;
     while k < days {
-        present += there_on_peak_day(row, year, k);
+        present += present_on_peak_day(row, year, k);
         k += 1;
     }
     Counts {
@@ -70,7 +70,7 @@ pub(crate) fn availability(row: &[u32], year: u64) -> Counts
     }
 }
 
-// At least 80% of the peak points are there, and no break is declared.
+// Whether at least 80% of the peak points are present and no break is declared.
 pub fn is_valid(row: &[u32], year: u64, broken: bool) -> bool
     ensures { λ r. ⌜ r ≡ validRow (now (row .entry)) year broken ⌝ }
 {

@@ -1,4 +1,4 @@
--- What an answer tells: where there is a place or a day, and where there is none.
+-- What an answer says: where there is a place or a day, and where there is none.
 use mathlib.Core.Path.{_≡_, refl, sym, _∙_}
 use mathlib.Core.Bool.{Bool, true, false, _&&_, true≢false}
 use Prim.Native.Nat.{ℕ, _+_, _-_, _*_, _/_, _%_, _≤_, _<_}

@@ -12,7 +12,7 @@ use Rattle.lists.proofs.Reflect.{of-and, of-or, of-not, of-eq, of-le}
 use Rattle.lists.proofs.Tests.{is-true, and-left, and-right, and-made, or-true, or-false}
 use Rattle.calendar.specs.Dates.{leap, monthLengths, longest, daysIn, isDate, isDay}
 use Rattle.calendar.specs.Places.{before, datePlace, monthOf, dayOf, hasDate}
-use Rattle.calendar.specs.Words.{EarlierDay}
+use Rattle.calendar.specs.Restated.{EarlierDay}
 use Rattle.calendar.proofs.Laws.Months.{longest-31, from-january, to-december, month-over, december}
 use Rattle.calendar.proofs.Tables.{given, beq→eq, tri, count-same, at, at-pair}
 

@@ -35,7 +35,7 @@ pub river-2021 : historyYears 2021 4 ∷ axisYears (historyYears 2021 4) ∷ [] 
 unfolding axisYears historyYears isKnown historyLength
 river-2021 = refl
 
--- on that axis 1 January 2007 opens the second row
+-- on that axis 1 January 2007 starts the second row
 pub position-2007 : positionOf (years 2006 12) 2007 1 1 ≡ 366
 unfolding positionOf datePlace before monthLengths sum
 position-2007 = refl

@@ -11,7 +11,7 @@ use Rattle.lists.proofs.Tests.{same, is-false, is-true, and-left, and-right, an
 use Rattle.calendar.specs.Dates.{isDay}
 use Rattle.calendar.specs.Places.{datePlace, monthOf, dayOf}
 use Rattle.calendar.specs.Spans.{years, among, historyLength, isKnown, historyYears, axisYears, positionOf, yearAt, placeAt}
-use Rattle.calendar.specs.Words.{EarlierDate}
+use Rattle.calendar.specs.Restated.{EarlierDate}
 use Rattle.calendar.specs.declared.Years.{Years}
 use Rattle.calendar.proofs.Tables.{tri}
 use Rattle.calendar.proofs.Laws.Days.{day-place, place-day, earlier-place}

@@ -11,7 +11,7 @@ use Rattle.lists.proofs.Reflect.{of-and, of-or, of-le}
 use Rattle.lists.proofs.Tests.{and-left, and-right, and-made, or-true, or-false}
 use Rattle.calendar.specs.Dates.{leap, monthLengths, longest, isDay, isWinter}
 use Rattle.calendar.specs.Places.{before, datePlace, monthOf, dayOf, winterBefore, winterPlace, dateOfWinter, hasWinterDate}
-use Rattle.calendar.specs.Words.{EarlierDay}
+use Rattle.calendar.specs.Restated.{EarlierDay}
 use Rattle.calendar.proofs.Tables.{given, count-same, at, at-pair}
 use Rattle.calendar.proofs.Laws.Days.{day-parts, has-date-rule, no-date-past, earlier-place}
 

@@ -1,28 +1,28 @@
-// What the close of a file tells: a refusal, or level, points and years.
+// The result of the close of a file: a refusal, or level, points and years.
 ghost use mathlib.Core.Path.{_≡_};
-ghost use Rattle.close.specs.FileTold.{refusedBy};
+ghost use Rattle.close.specs.FileOutcomes.{refusedBy};
 ghost use Rattle.close.specs.Ends.{noYears};
 
-// A history year: its case as the sheet has it, and its points present. All 0 where the file has no such year.
-pub struct Year {
+// A history year: its case as printed on the sheet, and its points present. All 0 where the file has no such year.
+pub struct YearRow {
     pub year: u64,
     pub case: u8,
     pub present: u64,
 }
 
-// A refusal's number, and 0 else; or number 0 with the level in W, the points counted and the years.
-pub(crate) struct Closing {
+// A refusal's number, all else 0; or number 0 with the level in W, the points counted and the years.
+pub(crate) struct FileOutcome {
     pub number: u64,
     pub level: u64,
     pub points: u64,
-    pub years: [Year; 10],
+    pub years: [YearRow; 10],
 }
 
-// All empty: those of a refusal, and of a report before its years stand in it.
-pub(crate) fn no_years() -> [Year; 10]
+// Ten empty years, for a refusal, and for a report before its years are set.
+pub(crate) fn no_years() -> [YearRow; 10]
     ensures { λ r. ⌜ r ≡ noYears ⌝ }
 {
-    let none = Year {
+    let none = YearRow {
         year: 0,
         case: 0,
         present: 0,
@@ -30,12 +30,12 @@ pub(crate) fn no_years() -> [Year; 10]
     [none; 10]
 }
 
-// 15 to 18: no level, no points and no years.
-pub(crate) fn refused(number: u64) -> Closing
+// The result of a refusal by 15 to 18: no level, no points and no years.
+pub(crate) fn refused(number: u64) -> FileOutcome
     ensures { λ r. ⌜ r ≡ refusedBy number ⌝ }
 {
     let years = no_years();
-    Closing {
+    FileOutcome {
         number,
         level: 0,
         points: 0,

@@ -1,11 +1,11 @@
-// What 1 asks at the close of the daily sums: at a date of the axis what D can give, elsewhere 0.
+// Refusal 1 at the close: daily sums. At a date of the axis what D can give, elsewhere 0.
 ghost use mathlib.Core.Path.{_≡_};
 ghost use Prim.Native.Nat.{_≤_};
 ghost use Rattle.meaning.specs.Record.{dailyFits};
 ghost use Rattle.close_checks.specs.Axis.{placedAt, dayFits};
 use calendar::Years;
 
-// The places of a year in the daily block.
+// The number of places of a year in the daily block.
 const PLACES: usize = 366;
 
 const MOST_DAILY: u32 = 3145680;

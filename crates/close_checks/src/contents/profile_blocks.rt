@@ -1,4 +1,4 @@
-// What 1 asks at the close of the profile values: at a date of the history what P can give, elsewhere 0.
+// Refusal 1 at the close: profile values. At a date of the history what P can give, elsewhere 0.
 use crate::contents::winter_blocks::day_end;
 use crate::contents::winter_blocks::is_dated;
 use crate::day_contents::all_zero;
@@ -8,7 +8,7 @@ ghost use mathlib.Core.Path.{_≡_};
 ghost use Prim.Native.Nat.{_≤_};
 ghost use Rattle.meaning.specs.Record.{slotsFit};
 
-// A profile value of a day that has a date can be any: no u16 is above 65,535.
+// Whether the profile values fit. On a day with a date any value does: no u16 is above 65,535.
 pub(crate) fn slots_fit(slots: &[u16], history: Years) -> bool
     requires { ⌜ history .first ≤ 9999 ⌝ }
     ensures { λ r. ⌜ r ≡ slotsFit history (now (slots .entry)) ⌝ }

@@ -1,28 +1,16 @@
-// What 1 asks at the close of the readings: at a date of the axis what X can give, in their order.
+// Refusal 1 at the close: readings. Each is at a date of the axis and is what X can give, in order.
 use crate::contents::axis_blocks::is_placed;
 use calendar::Years;
+use readings::is_kind;
 ghost use mathlib.Core.Path.{_≡_};
 ghost use Prim.Native.Nat.{_≤_};
 ghost use lib.ListN.{length};
 ghost use Rattle.meaning.specs.Filing.{reading};
-ghost use Rattle.meaning.specs.Line.{kindOfLetter, isKind};
+ghost use Rattle.meaning.specs.Line.{kindOfLetter};
 ghost use Rattle.meaning.specs.Record.{readingFits, readingsFit};
 ghost use Rattle.readings.specs.Columns.{readingsIn};
 
 const MOST_INDEX: u64 = 1000000000000;
-
-// R, C or E.
-fn is_kind(letter: u8) -> bool
-    ensures { λ r. ⌜ r ≡ isKind (kindOfLetter letter) ⌝ }
-{
-    if letter == b'R' {
-        return true;
-    }
-    if letter == b'C' {
-        return true;
-    }
-    letter == b'E'
-}
 
 fn reading_fits(axis: Years, position: u32, index: u64, kind: u8) -> bool
     requires { ⌜ axis .first ≤ 9999 ⌝ }
@@ -37,7 +25,7 @@ fn reading_fits(axis: Years, position: u32, index: u64, kind: u8) -> bool
     is_placed(axis, position as usize)
 }
 
-// The first n readings, in one walk: each goes by the least position and the least index that those before it leave.
+// Whether the first n readings fit, in one pass with the least position and the least index that those before allow.
 pub(crate) fn readings_fit(
     positions: &[u32],
     indexes: &[u64],

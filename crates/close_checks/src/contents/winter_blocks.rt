@@ -1,4 +1,4 @@
-// What 1 asks at the close of the points: at a date of the history what C can give, elsewhere missing.
+// Refusal 1 at the close: points. At a date of the history what C can give, elsewhere missing.
 use blocks::HALF_HOURS;
 use blocks::ROW;
 ghost use mathlib.Core.Path.{_≡_};
@@ -8,7 +8,7 @@ ghost use Rattle.close_checks.specs.Winter.{datedAt};
 use crate::day_contents::points_on_day;
 use calendar::Years;
 
-// Whether a place in rows of winter dates has a date of the history: the first row is that of the year first.
+// Whether a place in rows of winter dates has a date of the history; the first row is that of the year `first`.
 pub(crate) fn is_dated(history: Years, first: u64, place: usize) -> bool
     requires { ⌜ first ≤ 9999 ⌝ }
     ensures { λ r. ⌜ r ≡ datedAt history first place ⌝ }
@@ -20,7 +20,7 @@ pub(crate) fn is_dated(history: Years, first: u64, place: usize) -> bool
     calendar::has_winter_date(year, place % ROW / HALF_HOURS)
 }
 
-// Where the day that begins at a place ends, in a block of a length.
+// The end of the day that begins at a place, in a block of the given length.
 pub(crate) fn day_end(place: usize, length: usize) -> usize
     requires { ⌜ place ≤ length ⌝ }
     ensures { λ r. ⌜ r ≡ min (place + 20) length ⌝ }
@@ -31,7 +31,7 @@ pub(crate) fn day_end(place: usize, length: usize) -> usize
     place + HALF_HOURS
 }
 
-// The near block where the first row is that of AL-9, the far block where it is that of AL-14. A day's date is looked up once.
+// Whether a block fits: the near block, with a first row for AL-9, or the far block, with a first row for AL-14. A day's date is looked up once.
 pub(crate) fn points_fit(block: &[u32], first: u64, history: Years) -> bool
     requires { ⌜ first ≤ 9999 ⌝ }
     ensures { λ r. ⌜ r ≡ pointsFit history first (now (block .entry)) ⌝ }

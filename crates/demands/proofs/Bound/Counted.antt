@@ -1,4 +1,4 @@
--- The points that are counted: both readings miss the same places, and no file that document 01 knows misses all of them.
+-- The points that are counted: rounded and exact points are missing at the same places, and no file that document 01 knows is without points.
 use mathlib.Core.Path.{_≡_, refl}
 use mathlib.Core.Bool.{Bool, true, false, not, cond}
 use mathlib.Core.List.{List, map}
@@ -17,21 +17,21 @@ use Rattle.note.proofs.PeakDays.{fewest-days}
 use Rattle.meaning.specs.Filing.{Filing, Meter, noMeter, curveMeter, indexMeter, historyList}
 use Rattle.meaning.specs.Validity.{halfHours, expectedPoints, presentPoints, enough, curveValid}
 use Rattle.meaning.specs.Cases.{Case, caseM, case1, case2, case3, case4, caseP, case5, case6, Mark, curveCase, indexCase, caseBy, caseOf, markOf, marksOf}
-use Rattle.meaning.specs.Points.{Source, missing, own, fromDonors, fromDefault, Place, placeOf, pointAt, ratedBy, appliedRate, meant, sourceBy, sourceAt, readAt, readBy, ownOf, defaultAt}
+use Rattle.meaning.specs.Points.{Source, missing, own, fromDonors, fromDefault, CurvePlace, placeOf, pointAt, ratedBy, appliedRate, roundedPoint, sourceBy, sourceAt, readAt, readBy, ownOf, defaultAt}
 use Rattle.meaning.specs.Level.{pointsIn, counted}
 use Rattle.demands.specs.Exact.{exactly, exactBy, exactAt, exactPoints}
 use Rattle.demands.proofs.Bound.Years.{InHistory, year-some, some-years, year-peaks}
 use Rattle.demands.proofs.Bound.Places.{some-place, some-time}
 
--- ---- both readings miss the same places
-same-there : (s : Source) (r : Option ℕ) → isSome (exactBy r (exactly s)) ≡ isSome (ratedBy r (meant s))
-unfolding meant exactly ratedBy exactBy
+-- ---- rounded and exact points are missing at the same places
+same-there : (s : Source) (r : Option ℕ) → isSome (exactBy r (exactly s)) ≡ isSome (ratedBy r (roundedPoint s))
+unfolding roundedPoint exactly ratedBy exactBy
 same-there missing r = refl
 same-there (own o) r = refl
 same-there (fromDonors ca ds) r = refl
 same-there (fromDefault ps th p ca n cas) r = refl
 
-pub exact-counted : (qs : List Place) → length (exactPoints qs) ≡ length (pointsIn qs)
+pub exact-counted : (qs : List CurvePlace) → length (exactPoints qs) ≡ length (pointsIn qs)
 unfolding exactPoints pointsIn exactAt pointAt
 exact-counted qs = same-present exactAt pointAt (λ q. same-there (q .source) (q .rate)) qs
 
@@ -89,17 +89,17 @@ some-shows noMeter ks n = in-indexes ks n (any (λ k. k .index) ks) refl
 -- ---- its points
 -- a place with a point
 abbrev Seen : Filing → Case → ℕ → Type 0
-Seen F k y = Some (λ w. Some (λ h. T (isSome (meant (sourceBy k F y w h)))) (range 0 halfHours)) (peakDays y)
+Seen F k y = Some (λ w. Some (λ h. T (isSome (roundedPoint (sourceBy k F y w h)))) (range 0 halfHours)) (peakDays y)
 
--- 80% of the points of 11 days and more are some
+-- 80% of the points of 11 days or more are at least one
 some-read : (F : Filing) (y : ℕ) → InHistory F y → T (curveValid F y) → 0 < presentPoints F y
 unfolding curveValid enough expectedPoints
 some-read F y t v =
     let h = leb→le (80 * (20 * peakCount y)) (100 * presentPoints F y) (and-right (not (F .broken y)) (leb (80 * (20 * peakCount y)) (100 * presentPoints F y)) v) in
     omega (arith, fewest-days y (year-peaks F y t))
 
-read-there : (o : Option ℕ) → T (isSome o) → T (isSome (meant (ownOf (readBy o))))
-unfolding readBy ownOf meant
+read-there : (o : Option ℕ) → T (isSome o) → T (isSome (roundedPoint (ownOf (readBy o))))
+unfolding readBy ownOf roundedPoint
 read-there none t = t
 read-there (some v) t = tt
 
@@ -111,7 +111,7 @@ measured F y t v =
     (some-summed (map (λ w. count (λ h. isSome (F .point y w h)) (range 0 halfHours)) (peakDays y)) (some-read F y t v)))
 
 seen : (F : Filing) (y : ℕ) → InHistory F y → (k : Case) → Shows k (curveValid F y) → Seen F k y
-unfolding sourceBy defaultAt meant
+unfolding sourceBy defaultAt roundedPoint
 seen F y t caseM s = measured F y t s
 seen F y t case1 s = some-time F y t (λ w h. tt)
 seen F y t case2 s = absurd s
@@ -136,4 +136,4 @@ unfolding counted pointsIn pointAt placeOf sourceAt
 some-point F k =
     let y = year-some F (some-year-shows F k) in
     some-present (some-picture pointAt (some-place F (y .0) (y .2)
-    (some-map (λ w r. some-map (λ h t. rated-there (appliedRate F (y .0)) (meant (sourceAt F (y .0) w h)) t) r) (seen F (y .0) (y .2) (caseOf F (y .0)) (y .1)))))
+    (some-map (λ w r. some-map (λ h t. rated-there (appliedRate F (y .0)) (roundedPoint (sourceAt F (y .0) w h)) t) r) (seen F (y .0) (y .2) (caseOf F (y .0)) (y .1)))))

@@ -18,19 +18,19 @@ use Rattle.calendar.proofs.Laws.{WinterPlaceHasDay, winter-place-day, no-winter
 use Rattle.meaning.specs.Filing.{Filing, axisOf, yearOf, historyList}
 use Rattle.meaning.specs.Validity.{Interval, intervals, daysOf, hasDay, totalOf, isWinterDay, overlapsWinter, winterDays, isCovered, isSound, indexValid}
 use Rattle.meaning.specs.Points.{positionAt, intervalAt}
-use Rattle.meaning.specs.Closing.{zeroTotal, lacks, lackOrder, closingRefusal, someWinterInterval}
+use Rattle.meaning.specs.Closing.{zeroTotal, closeHolds, closeOrder, closingRefusal, someWinterInterval}
 use Rattle.meaning.proofs.Passed.{each-head, each-tail}
 use Rattle.demands.proofs.Bound.Years.{InHistory, in-history, axis-before}
 
 -- 17 does not hold
-no-zero-total : (F : Filing) → closingRefusal F ≡ none → T (not (lacks zeroTotal F))
-unfolding closingRefusal lackOrder
-no-zero-total F e = each-head (each-tail (each-tail (each-tail (first-none (λ k. lacks k F) lackOrder e))))
+no-zero-total : (F : Filing) → closingRefusal F ≡ none → T (not (closeHolds zeroTotal F))
+unfolding closingRefusal closeOrder
+no-zero-total F e = each-head (each-tail (each-tail (each-tail (first-none (λ k. closeHolds k F) closeOrder e))))
 
 -- so no interval that overlaps the winter of a valid index year has only daily sums of 0
-not-zero : (F : Filing) (y : ℕ) → InHistory F y → T (not (lacks zeroTotal F)) → T (indexValid F y) → (v : Interval) → In v (intervals F) → T (overlapsWinter F y v)
+not-zero : (F : Filing) (y : ℕ) → InHistory F y → T (not (closeHolds zeroTotal F)) → T (indexValid F y) → (v : Interval) → In v (intervals F) → T (overlapsWinter F y v)
     → 0 < totalOf F v
-unfolding lacks someWinterInterval
+unfolding closeHolds someWinterInterval
 not-zero F y t n h v i o = go (totalOf F v) refl
   where
     hits : ℕ → Interval → Bool

@@ -60,7 +60,7 @@ near-total {a} {b} (both-cons {x = n} {y = p} {xs = xs} {ys = qs} h r) =
       below = add-below a b n (sum xs) (length xs) p (total qs) (h .below) (k .below);
     }
 
--- both readings of one list
+-- two functions over one list
 pub both-map : {A B C : Type 0} {R : B → C → Type 0} (f : A → B) (g : A → C) {xs : List A} → Each (λ x. R (f x) (g x)) xs → Both R (map f xs) (map g xs)
 both-map f g each-nil = both-nil
 both-map f g (each-cons p r) = both-cons p (both-map f g r)

@@ -1,4 +1,4 @@
--- The places of the curve: what each of them, and what one of them has.
+-- The places of the curve: what holds of each, and of some.
 use Prim.Native.Nat.{ℕ}
 use native.Mathlib.Omega.{arith}
 use lib.Dec.{T}
@@ -10,18 +10,18 @@ use Rattle.note.specs.Peaks.{peakDays}
 use Rattle.note.proofs.PeakDays.{each-dated, days-length, fewest-days}
 use Rattle.meaning.specs.Filing.{Filing}
 use Rattle.meaning.specs.Validity.{halfHours}
-use Rattle.meaning.specs.Points.{Place, placeOf, yearPlaces, allPlaces}
+use Rattle.meaning.specs.Points.{CurvePlace, placeOf, yearPlaces, allPlaces}
 use Rattle.demands.proofs.Bound.Years.{InHistory, each-year, some-year, year-peaks}
 
--- what each half-hour of a dated winter place of a history year has, each place of the curve has
-pub each-place : {P : Place → Type 0} (F : Filing) → ((y w h : ℕ) → InHistory F y → T (hasWinterDate y w) → P (placeOf F y w h)) → Each P (allPlaces F)
+-- what holds at each half-hour of a dated winter place of a history year holds at each place of the curve
+pub each-place : {P : CurvePlace → Type 0} (F : Filing) → ((y w h : ℕ) → InHistory F y → T (hasWinterDate y w) → P (placeOf F y w h)) → Each P (allPlaces F)
 unfolding allPlaces yearPlaces
 each-place F k =
     each-flat (each-picture (yearPlaces F) (each-year F (λ y t.
     each-flat (each-picture (λ w. tab halfHours 0 (placeOf F y w)) (each-map (λ w d. each-tab halfHours 0 (placeOf F y w) (λ h a b. k y w h t d)) (each-dated y))))))
 
--- what a peak day and half-hour of a history year has, a place of the curve has
-pub some-place : {P : Place → Type 0} (F : Filing) (y : ℕ) → InHistory F y
+-- what holds at a peak day and half-hour of a history year holds at some place of the curve
+pub some-place : {P : CurvePlace → Type 0} (F : Filing) (y : ℕ) → InHistory F y
     → Some (λ w. Some (λ h. P (placeOf F y w h)) (range 0 halfHours)) (peakDays y)
     → Some P (allPlaces F)
 unfolding allPlaces yearPlaces

@@ -17,7 +17,7 @@ use Rattle.rounding.proofs.Laws.{half-up-whole}
 use Rattle.meaning.specs.Filing.{Filing, Meter, noMeter, curveMeter, indexMeter, historyOf}
 use Rattle.meaning.specs.Validity.{energyOf, totalOf, curveValid, indexValid}
 use Rattle.meaning.specs.Cases.{Case, caseM, case1, case2, case3, case4, caseP, case5, case6, Mark, curveCase, indexCase, caseBy, caseOf, markOf, marksOf}
-use Rattle.meaning.specs.Points.{Origin, asRead, byProfile, fractionOf, Donor, profiledIn, profiledAt, readBy, readAt, donorPlace, donorOf, curveDonor, indexDonor, curveDonors, indexDonors, ownOf, rebuiltBy, historyCas, defaultAt, sourceBy, sourceAt, roundedOrigin, donorCas, donorPoints, meant}
+use Rattle.meaning.specs.Points.{Origin, asRead, byProfile, fractionOf, Donor, profiledIn, profiledAt, readBy, readAt, donorPlace, donorOf, curveDonor, indexDonor, curveDonors, indexDonors, ownOf, rebuiltBy, historyCas, defaultAt, sourceBy, sourceAt, roundedOrigin, donorCas, donorPoints, roundedPoint}
 use Rattle.demands.specs.Exact.{total, exactly}
 use Rattle.meaning.specs.Closing.{closingRefusal}
 use Rattle.demands.proofs.Bound.Near.{Near, both-map, near-rounded, near-whole, near-total, near-rebuilt, Agree}
@@ -33,8 +33,8 @@ read-near v =
     let e : 1000 * v * 1 ≡ 1000 * v = omega arith in
     rw (rw e at (half-up-whole (1000 * v) 1 (omega arith))) (near-whole (1000 * v))
 
-read-agrees : (o : Option ℕ) → Agree 0 2 (meant (ownOf (readBy o))) (exactly (ownOf (readBy o)))
-unfolding readBy ownOf meant exactly
+read-agrees : (o : Option ℕ) → Agree 0 2 (roundedPoint (ownOf (readBy o))) (exactly (ownOf (readBy o)))
+unfolding readBy ownOf roundedPoint exactly
 read-agrees none = tt
 read-agrees (some v) = read-near v
 
@@ -67,8 +67,8 @@ donors-near {h} {ca} {ds} r =
     rw (length-map ds got) at (near-total (both-map got exact (each-map (λ d f. f .near) r)))
 
 -- a rebuilt point
-rebuilt-agrees : (h ca : ℕ) (ds : List Donor) → Each (Fine h ca) ds → Agree (1 + 2 * h) 2 (meant (rebuiltBy ca ds)) (exactly (rebuiltBy ca ds))
-unfolding rebuiltBy meant exactly rebuilt rounded
+rebuilt-agrees : (h ca : ℕ) (ds : List Donor) → Each (Fine h ca) ds → Agree (1 + 2 * h) 2 (roundedPoint (rebuiltBy ca ds)) (exactly (rebuiltBy ca ds))
+unfolding rebuiltBy roundedPoint exactly rebuilt rounded
 rebuilt-agrees h ca [] r = tt
 rebuilt-agrees h ca (d ∷ ds) r =
     near-rebuilt h (length (d ∷ ds)) ca (donorCas (d ∷ ds)) (donorPoints (d ∷ ds)) (total (map (λ (e : Donor). fractionOf (e .origin)) (d ∷ ds)))
@@ -119,7 +119,7 @@ case-fits : (F : Filing) (y : ℕ) → Fits (caseOf F y) (indexValid F y)
 unfolding caseOf markOf
 case-fits F y = by-fits (F .site .meter) (marksOf F) (markOf F y)
 
--- what is there only where a test passes
+-- what is present only where a test passes
 held-where : {A : Type 0} (P : A → Type 0) (b : Bool) (o : Option A) → (T b → Held P o) → Held P (cond b o none)
 held-where P true o h = h tt
 held-where P false o h = tt
@@ -163,14 +163,14 @@ module _ (F : Filing) (s : Sane F) (ok : closingRefusal F ≡ none) where
   unfolding historyCas
   some-cas = sum-positive (some-picture (F .ca) (some-year F (historyOf F .first) (first-year F (s .known)) (s .some-ca (historyOf F .first) (first-year F (s .known)))))
 
-  default-agrees : (y w h : ℕ) → Agree 1 2 (meant (defaultAt F y w h)) (exactly (defaultAt F y w h))
-  unfolding defaultAt meant exactly rounded byDefault
+  default-agrees : (y w h : ℕ) → Agree 1 2 (roundedPoint (defaultAt F y w h)) (exactly (defaultAt F y w h))
+  unfolding defaultAt roundedPoint exactly rounded byDefault
   default-agrees y w h = near-rounded _ (1000000 * historyCas F) (omega (arith, some-cas))
 
   -- ---- a point, by the case of its year
   source-agrees : (k : Case) (y w h : ℕ) → InHistory F y → T (hasWinterDate y w) → Fits k (indexValid F y)
-      → Agree (halvesOf k) 2 (meant (sourceBy k F y w h)) (exactly (sourceBy k F y w h))
-  unfolding sourceBy readAt halvesOf meant exactly
+      → Agree (halvesOf k) 2 (roundedPoint (sourceBy k F y w h)) (exactly (sourceBy k F y w h))
+  unfolding sourceBy readAt halvesOf roundedPoint exactly
   source-agrees caseM y w h t dated f = read-agrees (F .point y w h)
   source-agrees case1 y w h t dated f = profiled-close y w h t dated f
   source-agrees case2 y w h t dated f = rebuilt-agrees 0 (F .ca y) (curveDonors F w h) (curve-fine y w h t)
@@ -180,6 +180,6 @@ module _ (F : Filing) (s : Sane F) (ok : closingRefusal F ≡ none) where
   source-agrees case5 y w h t dated f = rebuilt-agrees 1 (F .ca y) (indexDonors F w h) (index-fine y w h t)
   source-agrees case6 y w h t dated f = default-agrees y w h
 
-  pub case-agrees : (y w h : ℕ) → InHistory F y → T (hasWinterDate y w) → Agree (halvesOf (caseOf F y)) 2 (meant (sourceAt F y w h)) (exactly (sourceAt F y w h))
+  pub case-agrees : (y w h : ℕ) → InHistory F y → T (hasWinterDate y w) → Agree (halvesOf (caseOf F y)) 2 (roundedPoint (sourceAt F y w h)) (exactly (sourceAt F y w h))
   unfolding sourceAt
   case-agrees y w h t dated = source-agrees (caseOf F y) y w h t dated (case-fits F y)

@@ -12,7 +12,7 @@ use Rattle.lists.proofs.Tables.{each-both}
 use Rattle.note.proofs.Factors.{c-most}
 use Rattle.meaning.specs.Filing.{Filing}
 use Rattle.meaning.specs.Cases.{Case, caseM, case1, case2, case3, case4, caseP, case5, case6, caseOf}
-use Rattle.meaning.specs.Points.{Place, placeOf, allPlaces, sourceAt, meant, appliedRate, withRate, ratedBy, pointAt}
+use Rattle.meaning.specs.Points.{CurvePlace, placeOf, allPlaces, sourceAt, roundedPoint, appliedRate, withRate, ratedBy, pointAt}
 use Rattle.meaning.specs.Level.{pointsIn, counted, coefficientOf, ncc, lowestRate, reportOf}
 use Rattle.demands.specs.Exact.{times, dividedBy, total, exactly, exactRate, exactBy, exactAt, exactPoints, exactFraction}
 use Rattle.meaning.specs.Closing.{closingRefusal}
@@ -26,10 +26,10 @@ use Rattle.demands.proofs.Bound.Sources.{halvesOf, case-agrees}
 use Rattle.demands.proofs.Bound.Counted.{exact-counted, some-point}
 
 -- before its rate a place's point lies within so many halves of its fraction, or both are missing
-abbrev pub Off : ℕ → Place → Type 0
-Off halves q = Agree halves 2 (meant (q .source)) (exactly (q .source))
+abbrev pub Off : ℕ → CurvePlace → Type 0
+Off halves q = Agree halves 2 (roundedPoint (q .source)) (exactly (q .source))
 
--- rates round, or no rate of a history year but 1000 is there
+-- rates round, or no history year has a rate but 1000
 abbrev pub Rates : ℕ → Filing → Type 0
 Rates rates F = (rates ≡ 1) ⊎ ((y r : ℕ) → InHistory F y → appliedRate F y ≡ some r → r ≡ 1000)
 
@@ -75,7 +75,7 @@ module _ (halves rates : ℕ) (F : Filing) (s : Sane F) (off : Each (Off halves)
   each-agrees : Each (λ q. Agree (pointOver halves rates (lowestRate F)) (2 * lowestRate F) (pointAt q) (exactAt q)) (allPlaces F)
   unfolding pointAt exactAt
   each-agrees =
-      each-map (λ q p. rate-agrees halves rates (lowestRate F) (lowest-top F) (q .rate) (p .1) (meant (q .source)) (exactly (q .source)) (p .0))
+      each-map (λ q p. rate-agrees halves rates (lowestRate F) (lowest-top F) (q .rate) (p .1) (roundedPoint (q .source)) (exactly (q .source)) (p .0))
       (each-both off each-rate)
 
   sums-near : Near (counted F * pointOver halves rates (lowestRate F)) (2 * lowestRate F) (sum (pointsIn (allPlaces F))) (total (exactPoints (allPlaces F)))
@@ -100,7 +100,7 @@ off-by : (halves : ℕ) (F : Filing) → Sane F → closingRefusal F ≡ none �
 unfolding placeOf
 off-by halves F s ok h =
     each-place F (λ y w k t d.
-    agree-wider (halvesOf (caseOf F y)) halves 2 (h y t) (meant (sourceAt F y w k)) (exactly (sourceAt F y w k)) (case-agrees F s ok y w k t d))
+    agree-wider (halvesOf (caseOf F y)) halves 2 (h y t) (roundedPoint (sourceAt F y w k)) (exactly (sourceAt F y w k)) (case-agrees F s ok y w k t d))
 
 three-halves : (k : Case) → halvesOf k ≤ 3
 unfolding halvesOf

@@ -1,4 +1,4 @@
--- The history years of a filing: what each has, and that there are some.
+-- The history years of a filing: what holds of each, and that there are some.
 use mathlib.Core.Path.{_≡_}
 use mathlib.Core.Logic.{_⊎_, inl, inr}
 use Prim.Native.Nat.{ℕ, _≤_, _<_}
@@ -29,7 +29,7 @@ in-history F y t = let b = among-words (historyOf F) y .0 t in in-range (history
 pub some-year : {P : ℕ → Type 0} (F : Filing) (y : ℕ) → InHistory F y → P y → Some P (historyList F)
 some-year F y t p = some-in (in-history F y t) p
 
--- the year that has it
+-- a history year of which it holds
 pub year-some : {P : ℕ → Type 0} (F : Filing) → Some P (historyList F) → (y : ℕ) × P y × InHistory F y
 year-some F s = paired s (each-year F (λ y t. t))
 

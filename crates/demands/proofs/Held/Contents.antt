@@ -18,7 +18,7 @@ use Rattle.calendar.proofs.Laws.Days.{date-day, date-at-place}
 use Rattle.calendar.proofs.Laws.Positions.{position-parts}
 use Rattle.meaning.specs.Filing.{Site, Reading}
 use Rattle.meaning.specs.Line.{Line, C, D, P, is, tagOf, mostPower, mostProfile, mostDaily, numberAt, yearOn, monthOn, dayOn, valueAt, pointOf, winterOn}
-use Rattle.meaning.specs.Blocks.{World, missingPoint, rowSize, pointsSize, slotsSize, dailySize, codeOfPoint, isNear, nearStart, farStart, slotsStart, slotAt, readingsOf, freshWorld}
+use Rattle.meaning.specs.Blocks.{Blocks, missingPoint, rowSize, pointsSize, slotsSize, dailySize, codeOfPoint, isNear, nearStart, farStart, slotsStart, slotAt, readingsOf, freshBlocks}
 use Rattle.meaning.specs.Record.{Rec, historyOfSite, historyOfRec, axisOfRec, isDated, pointFits, pointsFit, slotsFit, dailyFits, readingsFit, contentsFit}
 use Rattle.meaning.specs.Calls.{pointCodes, profileValues, positionOn}
 use Rattle.meaning.proofs.Accepted.{WinterLine, AxisLine, PointFits}
@@ -29,14 +29,14 @@ use Rattle.demands.proofs.Held.Points.{length-codes, code-of}
 use Rattle.demands.proofs.Held.Profiles.{length-values, value-of}
 
 -- ---- the five tests
-pub record Contents (h axis : Years) (al : ℕ) (w : World) (rs : List Reading) : Type 0 where
+pub record Contents (h axis : Years) (al : ℕ) (w : Blocks) (rs : List Reading) : Type 0 where
   pub near : T (pointsFit h (al - 9) (w .near))
   pub far : T (pointsFit h (al - 14) (w .far))
   pub slots : T (slotsFit h (w .slots))
   pub daily : T (dailyFits axis (w .daily))
   pub readings : T (readingsFit axis rs)
 
-pub contents-of : (s : Rec) (w : World) → T (contentsFit s w) → Contents (historyOfRec s) (axisOfRec s) (s .site .al) w (readingsOf w (s .readings))
+pub contents-of : (s : Rec) (w : Blocks) → T (contentsFit s w) → Contents (historyOfRec s) (axisOfRec s) (s .site .al) w (readingsOf w (s .readings))
 unfolding contentsFit
 contents-of s w t =
     let a = and-parts (pointsFit (historyOfRec s) (s .site .al - 9) (w .near) && pointsFit (historyOfRec s) (s .site .al - 14) (w .far)) _ t in
@@ -45,7 +45,7 @@ contents-of s w t =
     let d = and-parts (slotsFit (historyOfRec s) (w .slots)) _ (c .0) in
     record { near = b .0; far = b .1; slots = d .0; daily = d .1; readings = c .1 }
 
-pub contents-fit : (s : Rec) (w : World) → Contents (historyOfRec s) (axisOfRec s) (s .site .al) w (readingsOf w (s .readings)) → T (contentsFit s w)
+pub contents-fit : (s : Rec) (w : Blocks) → Contents (historyOfRec s) (axisOfRec s) (s .site .al) w (readingsOf w (s .readings)) → T (contentsFit s w)
 unfolding contentsFit
 contents-fit s w c =
     and-made (pointsFit (historyOfRec s) (s .site .al - 9) (w .near) && pointsFit (historyOfRec s) (s .site .al - 14) (w .far)) _
@@ -54,8 +54,8 @@ contents-fit s w c =
     (and-made (slotsFit (historyOfRec s) (w .slots)) _ (c .slots) (c .daily)) (c .readings))
 
 -- ---- fresh blocks
-pub fresh-contents : (h axis : Years) (al : ℕ) → Contents h axis al freshWorld []
-unfolding freshWorld pointsFit pointFits slotsFit dailyFits readingsFit all neighbours
+pub fresh-contents : (h axis : Years) (al : ℕ) → Contents h axis al freshBlocks []
+unfolding freshBlocks pointsFit pointFits slotsFit dailyFits readingsFit all neighbours
 fresh-contents h axis al = record {
   near = replicate-fits _ 0 pointsSize missingPoint (λ k. tt);
   far = replicate-fits _ 0 pointsSize missingPoint (λ k. tt);

@@ -9,12 +9,11 @@ use borrow.Author.Tests.{leb-true, le-leb, lt-leb}
 use Rattle.lists.specs.Lists.{tab, range, sum, count}
 use Rattle.lists.proofs.Snoc.{sum-rises, sum-more, one, count-sum}
 use Rattle.calendar.specs.declared.Years.{Years}
-use Rattle.calendar.specs.Dates.{isDate, isWinter}
+use Rattle.calendar.specs.Dates.{isDate, isWinter, allWinterDates, allDates}
 use Rattle.calendar.specs.Places.{datePlace, winterPlace, dateOfWinter, hasDate, hasWinterDate}
 use Rattle.calendar.specs.Spans.{among}
 use Rattle.calendar.proofs.Laws.{date-day, day-place, date-at-place, dates-in-year, winter-day-place, winter-dates-in-year, among-words}
 use Rattle.meaning.specs.Line.{dateKey}
-use Rattle.meaning.specs.Closing.{allWinterDates, allDates}
 use Rattle.meaning.specs.Record.{Rec, historyOfRec, axisOfRec}
 
 -- ---- of a year, at or before a key
@@ -32,7 +31,7 @@ yearsBy y k = cond (leb y k) 1 0
 unfoldable pub over : Years → (ℕ → ℕ) → ℕ
 over s f = sum (tab (s .count) (s .first) f)
 
--- S, and E, by the rank of the last tag
+-- how many of S and E have come, by the rank of the last tag
 unfoldable pub marks : ℕ → ℕ
 marks n = cond (eqb n 0) 0 (cond (eqb 8 n) 2 1)
 

@@ -16,9 +16,9 @@ use Rattle.calendar.specs.Spans.{among, axisYears, positionOf}
 use Rattle.calendar.proofs.Laws.Days.{date-day, day-place}
 use Rattle.meaning.specs.Line.{Line, D, is, tagOf, mostDaily, numberAt, yearOn, monthOn, dayOn, placeOn}
 use Rattle.meaning.specs.File.{dailyOn, dailyIn}
-use Rattle.meaning.specs.Blocks.{World}
+use Rattle.meaning.specs.Blocks.{Blocks}
 use Rattle.meaning.specs.Record.{Rec, historyOfSite, axisOfRec, dailyHeld}
-use Rattle.meaning.specs.Calls.{positionOn, worldAfter}
+use Rattle.meaning.specs.Calls.{positionOn, blocksAfter}
 use Rattle.meaning.proofs.Accepted.{AxisLine}
 use Rattle.demands.proofs.Held.Spans.{axis-row}
 use Rattle.demands.proofs.Held.Earlier.{Short, fails, short-key, date-key, names, unnamed}
@@ -38,10 +38,10 @@ place-below : {axis : Years} {n : ℕ} {l : Line} → AxisLine axis n l → plac
 unfolding placeOn
 place-below {l = l} a = day-place (monthOn l) (dayOn l) (date-day (yearOn l) (monthOn l) (dayOn l) (a .date)) .below
 
-module _ (s : Rec) (w : World) (l : Line) (z : Sizes w) (same : axisOfRec s ≡ axisYears (historyOfSite (s .site))) where
+module _ (s : Rec) (w : Blocks) (l : Line) (z : Sizes w) (same : axisOfRec s ≡ axisYears (historyOfSite (s .site))) where
   daily-stored : T (is D (tagOf l)) → AxisLine (axisYears (historyOfSite (s .site))) mostDaily l
-      → dailyHeld (axisYears (historyOfSite (s .site))) (worldAfter (tagOf l) l s w) (yearOn l) (placeOn l) ≡ numberAt l 4
-  unfolding dailyHeld worldAfter positionOn positionOf placeOn
+      → dailyHeld (axisYears (historyOfSite (s .site))) (blocksAfter (tagOf l) l s w) (yearOn l) (placeOn l) ≡ numberAt l 4
+  unfolding dailyHeld blocksAfter positionOn positionOf placeOn
   daily-stored d a =
       rw (
         is-true (among (axisYears (historyOfSite (s .site))) (yearOn l)) (a .year),
@@ -54,8 +54,8 @@ module _ (s : Rec) (w : World) (l : Line) (z : Sizes w) (same : axisOfRec s ≡ 
 
   daily-kept : (T (is D (tagOf l)) → AxisLine (axisYears (historyOfSite (s .site))) mostDaily l) → (y p : ℕ)
       → T (not (is D (tagOf l) && (eqb (yearOn l) y && eqb (placeOn l) p)))
-      → dailyHeld (axisYears (historyOfSite (s .site))) (worldAfter (tagOf l) l s w) y p ≡ dailyHeld (axisYears (historyOfSite (s .site))) w y p
-  unfolding dailyHeld worldAfter positionOn positionOf placeOn
+      → dailyHeld (axisYears (historyOfSite (s .site))) (blocksAfter (tagOf l) l s w) y p ≡ dailyHeld (axisYears (historyOfSite (s .site))) w y p
+  unfolding dailyHeld blocksAfter positionOn positionOf placeOn
   daily-kept a y p n =
       rw same (where-same (among (axisYears (historyOfSite (s .site))) y && ltb p 366) _ _ 0
       (λ t. let i = and-parts (among (axisYears (historyOfSite (s .site))) y) (ltb p 366) t in
@@ -66,14 +66,14 @@ module _ (s : Rec) (w : World) (l : Line) (z : Sizes w) (same : axisOfRec s ≡ 
       (λ e. let f = axis-row (s .site) (yearOn l) (a d .year) in let g = axis-row (s .site) y (i .0) in let h = place-below (a d) in
       unnamed D l y (eqb (placeOn l) p) n d (omega arith) (is-date l p (omega arith))))))
 
-pub daily-step : (ls : List Line) (l : Line) (s : Rec) (w : World) → Sizes w → axisOfRec s ≡ axisYears (historyOfSite (s .site))
+pub daily-step : (ls : List Line) (l : Line) (s : Rec) (w : Blocks) → Sizes w → axisOfRec s ≡ axisYears (historyOfSite (s .site))
     → (T (is D (tagOf l)) → AxisLine (axisYears (historyOfSite (s .site))) mostDaily l) → (T (is D (tagOf l)) → Each (Short D l) ls) → (y p : ℕ)
     → dailyHeld (axisYears (historyOfSite (s .site))) w y p ≡ dailyIn ls y p
-    → dailyHeld (axisYears (historyOfSite (s .site))) (worldAfter (tagOf l) l s w) y p ≡ dailyIn (ls ++ (l ∷ [])) y p
+    → dailyHeld (axisYears (historyOfSite (s .site))) (blocksAfter (tagOf l) l s w) y p ≡ dailyIn (ls ++ (l ∷ [])) y p
 unfolding dailyIn dailyOn
 daily-step ls l s w z same a short y p e =
     found (λ o. orElse o 0) (dailyOn y p) ls l (is D (tagOf l) && (eqb (yearOn l) y && eqb (placeOn l) p)) (numberAt l 4)
-    (dailyHeld (axisYears (historyOfSite (s .site))) (worldAfter (tagOf l) l s w) y p) (dailyHeld (axisYears (historyOfSite (s .site))) w y p) refl e
+    (dailyHeld (axisYears (historyOfSite (s .site))) (blocksAfter (tagOf l) l s w) y p) (dailyHeld (axisYears (historyOfSite (s .site))) w y p) refl e
     (λ t. let n = names D l y (eqb (placeOn l) p) t in each-map (λ m g. rw (date-free l m y p g (n .year) (eqb→eq (placeOn l) p (n .date)))) (short (n .tag)))
     (λ t. let n = names D l y (eqb (placeOn l) p) t in rw (← n .year, ← eqb→eq (placeOn l) p (n .date)) (daily-stored s w l z same (n .tag) (a (n .tag))))
     (daily-kept s w l z same a y p)

@@ -18,7 +18,7 @@ use Rattle.calendar.proofs.Laws.Days.{date-day, date-at-place}
 use Rattle.calendar.proofs.Laws.Winter.{winter-day-place}
 use Rattle.meaning.specs.Line.{Line, Tag, is, tagOf, yearOn, monthOn, dayOn, hasDateOn, isWinterTag, isRising, dateKey, keyOf, winterOn, placeOn}
 use Rattle.meaning.specs.Refusals.{notLater, holds}
-use Rattle.meaning.specs.File.{reachedIn, beforeIn, refusalAt}
+use Rattle.meaning.specs.File.{notLaterIn, beforeIn, refusalAt}
 use Rattle.meaning.specs.Record.{isDated}
 use Rattle.meaning.proofs.Passed.{passed}
 use Rattle.meaning.proofs.Accepted.{WinterLine, is-tag}
@@ -29,7 +29,7 @@ pub fails : (b : Bool) → (T b → ⊥) → b ≡ false
 fails true f = absurd (f tt)
 fails false f = refl
 
--- ---- a line m of tag t has not reached l
+-- ---- a line m of tag t has an earlier date or year than l
 abbrev pub Short : Tag → Line → Line → Type 0
 Short t l m = T (not (is t (tagOf m) && leb (keyOf t l) (keyOf t m)))
 
@@ -38,7 +38,7 @@ unreached-by true b t n = n
 unreached-by false b t n = absurd t
 
 pub unreached : (ls : List Line) (l : Line) → refusalAt ls l ≡ none → (t : Tag) → tagOf l ≡ t → T (isRising t) → Each (Short t l) ls
-unfolding refusalAt holds beforeIn reachedIn
+unfolding refusalAt holds beforeIn notLaterIn
 unreached ls l e t u r =
     any-each (λ (m : Line). is t (tagOf m) && leb (keyOf t l) (keyOf t m)) ls
     (unreached-by (isRising t) (any (λ (m : Line). is t (tagOf m) && leb (keyOf t l) (keyOf t m)) ls) r (rw u at (passed (beforeIn ls) l e notLater)))

@@ -12,7 +12,7 @@ use Rattle.meaning.specs.Filing.{noSite}
 use Rattle.meaning.specs.Line.{Line, S, tagOf, siteOn, isMeter, mostPower}
 use Rattle.meaning.specs.Refusals.{misplaced, tooSoon, holds, refusal, isTooSoon}
 use Rattle.meaning.specs.Record.{Rec, isTaken, siteOfRec, historyOfSite, historyOfRec, axisOfRec, isWithin, meterFits, siteFits, beforeOf}
-use Rattle.meaning.specs.Calls.{lastsAfter, talliesAfter, recAfter}
+use Rattle.meaning.specs.Calls.{lastDatesAfter, talliesAfter, recAfter}
 use Rattle.meaning.proofs.Passed.{passed}
 use Rattle.meaning.proofs.Accepted.{SiteLine, accepted-S}
 use Rattle.demands.proofs.Held.Counts.{datesBy, winterDatesBy, over, marks, linesBy}
@@ -51,7 +51,7 @@ module _ (s : Rec) (l : Line) (e : refusal (beforeOf s) l ≡ none) (u : tagOf l
   timely = rw u at (passed (beforeOf s) l e tooSoon)
 
   lasts-first : LastsIn (historyOfRec (recAfter S l s)) (recAfter S l s .lasts)
-  unfolding recAfter lastsAfter axisYears
+  unfolding recAfter lastDatesAfter axisYears
   lasts-first =
       let none-yet : LastsIn (years 0 0) (s .lasts) = rw (no-span s not-taken) at (k .lasts) in
       record {
@@ -68,7 +68,7 @@ module _ (s : Rec) (l : Line) (e : refusal (beforeOf s) l ≡ none) (u : tagOf l
   few-first = omega (arith, k .few, no-lines s not-taken)
 
   pub kept-first : Kept (recAfter S l s)
-  unfolding recAfter lastsAfter talliesAfter isTaken axisOfRec axisYears
+  unfolding recAfter lastDatesAfter talliesAfter isTaken axisOfRec axisYears
   kept-first = record {
     sited = site-fits l (accepted-S (beforeOf s) l e u);
     timely = timely;

@@ -4,18 +4,18 @@ use mathlib.Core.Bool.{true, false, not, _&&_, _||_}
 use Prim.Native.Nat.{_≤_}
 use native.Mathlib.Omega.{arith}
 use lib.Dec.{T, leb, eqb, leb→le, le→leb}
+use Rattle.calendar.specs.Dates.{allWinterDates, allDates}
 use Rattle.lists.proofs.Tests.{and-made, and-parts}
 use Rattle.calendar.specs.declared.Years.{Years}
 use Rattle.calendar.specs.Spans.{axisYears}
 use Rattle.meaning.specs.Line.{mostIndex}
 use Rattle.meaning.specs.Refusals.{isTooSoon, mostReadings}
-use Rattle.meaning.specs.Closing.{allWinterDates, allDates}
-use Rattle.meaning.specs.Record.{Rec, Lasts, isTaken, historyOfRec, axisOfRec, isWithin, siteFits, dateFits, yearFits, lastsFit, eachYear, talliesFit, recFits}
+use Rattle.meaning.specs.Record.{Rec, LastDates, isTaken, historyOfRec, axisOfRec, isWithin, siteFits, dateFits, yearFits, lastDatesFit, eachYear, talliesFit, recFits}
 use Rattle.demands.proofs.Held.Counts.{datesBy, winterDatesBy, linesBy, dates-most, winters-most}
 use Rattle.demands.proofs.Held.Ranges.{each-year-map}
 
 -- ---- the parts of refusal 1's checks on the record
-pub record LastsIn (h : Years) (k : Lasts) : Type 0 where
+pub record LastsIn (h : Years) (k : LastDates) : Type 0 where
   pub c : T (dateFits h true (k .c))
   pub x : T (dateFits (axisYears h) false (k .x))
   pub d : T (dateFits (axisYears h) false (k .d))
@@ -23,8 +23,8 @@ pub record LastsIn (h : Years) (k : Lasts) : Type 0 where
   pub b : T (yearFits h (k .b))
   pub r : T (yearFits h (k .r))
 
-pub lasts-parts : (h : Years) (k : Lasts) → T (lastsFit h k) → LastsIn h k
-unfolding lastsFit
+pub lasts-parts : (h : Years) (k : LastDates) → T (lastDatesFit h k) → LastsIn h k
+unfolding lastDatesFit
 lasts-parts h k t =
     let t1 = and-parts (dateFits h true (k .c)) _ t in
     let t2 = and-parts (dateFits (axisYears h) false (k .x)) _ (t1 .1) in
@@ -33,8 +33,8 @@ lasts-parts h k t =
     let t5 = and-parts (yearFits h (k .b)) (yearFits h (k .r)) (t4 .1) in
     record { c = t1 .0; x = t2 .0; d = t3 .0; p = t4 .0; b = t5 .0; r = t5 .1 }
 
-pub lasts-whole : (h : Years) (k : Lasts) → LastsIn h k → T (lastsFit h k)
-unfolding lastsFit
+pub lasts-whole : (h : Years) (k : LastDates) → LastsIn h k → T (lastDatesFit h k)
+unfolding lastDatesFit
 lasts-whole h k i =
     and-made (dateFits h true (k .c)) _ (i .c) (and-made (dateFits (axisYears h) false (k .x)) _ (i .x) (and-made (dateFits (axisYears h) false (k .d)) _ (i .d)
     (and-made (dateFits h true (k .p)) _ (i .p) (and-made (yearFits h (k .b)) (yearFits h (k .r)) (i .b) (i .r)))))
@@ -56,10 +56,10 @@ pub kept-of : (s : Rec) → T (recFits s) → T (eachYear (historyOfRec s) (λ y
     → T (eachYear (axisOfRec s) (λ y n. leb n (datesBy y (s .lasts .d))) (s .tallies .dailyDates)) → s .count ≤ linesBy s → Kept s
 unfolding recFits talliesFit
 kept-of s t p d f =
-    let t1 = and-parts (leb (s .state) 3 && (leb (s .count) 9999 && leb (s .last) 8)) _ t in
+    let t1 = and-parts (leb (s .count) 9999 && leb (s .last) 8) _ t in
     let t2 = and-parts (siteFits (isTaken s) (s .site) && not (isTooSoon (s .site .al) (s .site .filiere))) _ (t1 .1) in
     let t3 = and-parts (leb (s .readings) mostReadings && leb (s .lastIndex) mostIndex) _ (t2 .1) in
-    let t4 = and-parts (lastsFit (historyOfRec s) (s .lasts)) _ (t3 .1) in
+    let t4 = and-parts (lastDatesFit (historyOfRec s) (s .lasts)) _ (t3 .1) in
     let site = and-parts (siteFits (isTaken s) (s .site)) _ (t2 .0) in
     let numbers = and-parts (leb (s .readings) mostReadings) (leb (s .lastIndex) mostIndex) (t3 .0) in
     let t5 = and-parts (eachYear (historyOfRec s) (λ y n. leb n (allWinterDates y)) (s .tallies .profileDates)) _ (t4 .1) in
@@ -78,16 +78,16 @@ kept-of s t p d f =
       few = f;
     }
 
-pub fits-of : (s : Rec) → Kept s → s .state ≡ 1 → s .count ≤ 9999 → s .last ≤ 8 → T (recFits s)
+pub fits-of : (s : Rec) → Kept s → s .count ≤ 9999 → s .last ≤ 8 → T (recFits s)
 unfolding recFits talliesFit axisOfRec
-fits-of s k o n l =
-    and-made (leb (s .state) 3 && (leb (s .count) 9999 && leb (s .last) 8)) _
-    (and-made (leb (s .state) 3) _ (le→leb (s .state) 3 (omega arith)) (and-made (leb (s .count) 9999) _ (le→leb (s .count) 9999 n) (le→leb (s .last) 8 l)))
+fits-of s k n l =
+    and-made (leb (s .count) 9999 && leb (s .last) 8) _
+    (and-made (leb (s .count) 9999) _ (le→leb (s .count) 9999 n) (le→leb (s .last) 8 l))
     (and-made (siteFits (isTaken s) (s .site) && not (isTooSoon (s .site .al) (s .site .filiere))) _
     (and-made (siteFits (isTaken s) (s .site)) _ (k .sited) (k .timely))
     (and-made (leb (s .readings) mostReadings && leb (s .lastIndex) mostIndex) _
     (and-made (leb (s .readings) mostReadings) _ (le→leb (s .readings) mostReadings (k .readings)) (le→leb (s .lastIndex) mostIndex (k .index)))
-    (and-made (lastsFit (historyOfRec s) (s .lasts)) _ (lasts-whole (historyOfRec s) (s .lasts) (k .lasts)) tallies)))
+    (and-made (lastDatesFit (historyOfRec s) (s .lasts)) _ (lasts-whole (historyOfRec s) (s .lasts) (k .lasts)) tallies)))
   where
     tallies : T (talliesFit (historyOfRec s) (s .tallies))
     tallies =

@@ -13,8 +13,8 @@ use Rattle.calendar.specs.Spans.{isKnown}
 use Rattle.meaning.specs.Filing.{Site, noSite}
 use Rattle.meaning.specs.Line.{Line, S, E, rank, is, tagOf}
 use Rattle.meaning.specs.Refusals.{isTooSoon}
-use Rattle.meaning.specs.File.{siteIn, axisIn, stops, barredIn}
-use Rattle.meaning.specs.Record.{Rec, isTaken, siteOfRec, axisOfRec, isWithin, siteFits, barredBy}
+use Rattle.meaning.specs.File.{siteIn, axisIn, rulesOut, misplacedIn}
+use Rattle.meaning.specs.Record.{Rec, isTaken, siteOfRec, axisOfRec, isWithin, siteFits, misplacedBy}
 use Rattle.demands.proofs.Held.Parts.{HeldRec}
 use Rattle.demands.proofs.Held.Room.{lines-most}
 use Rattle.demands.proofs.Held.Rec.{held-history, held-count, held-barred, held-kept}
@@ -25,18 +25,18 @@ no-second true b c e = false≢true e
 no-second false b c e = false≢true e
 
 pub held-taken : {l : Line} {ls : List Line} {s : Rec} → HeldRec (l ∷ ls) s → T (isTaken s)
-unfolding isTaken barredBy barredIn any stops
+unfolding isTaken misplacedBy misplacedIn any rulesOut
 held-taken {l = l} {ls = ls} {s = s} h = go (s .last) (held-barred h S)
   where
-    go : (n : ℕ) → barredBy n (s .site .meter) S ≡ barredIn (l ∷ ls) S → T (not (eqb n 0))
-    go zero e = absurd (no-second (ltb 1 (rank (tagOf l))) (any (λ (m : Line). stops (tagOf m) S) ls) (is E (tagOf l)) e)
+    go : (n : ℕ) → misplacedBy n (s .site .meter) S ≡ misplacedIn (l ∷ ls) S → T (not (eqb n 0))
+    go zero e = absurd (no-second (ltb 1 (rank (tagOf l))) (any (λ (m : Line). rulesOut (tagOf m) S) ls) (is E (tagOf l)) e)
     go (suc n) e = rw (ne-eqb (suc n) 0 (λ z. omega arith)) tt
 
 pub held-none : {s : Rec} → HeldRec [] s → T (not (isTaken s))
-unfolding isTaken barredBy barredIn
+unfolding isTaken misplacedBy misplacedIn
 held-none {s = s} h = go (s .last) (held-barred h S)
   where
-    go : (n : ℕ) → barredBy n (s .site .meter) S ≡ barredIn [] S → T (not (not (eqb n 0)))
+    go : (n : ℕ) → misplacedBy n (s .site .meter) S ≡ misplacedIn [] S → T (not (not (eqb n 0)))
     go zero e = tt
     go (suc n) e = absurd (again (ltb 1 (suc n)) (eqb 8 (suc n)) e)
       where

@@ -14,11 +14,11 @@ use Rattle.calendar.specs.Spans.{axisYears}
 use Rattle.note.specs.Coefficients.{caOf}
 use Rattle.meaning.specs.Filing.{Site, Filing}
 use Rattle.meaning.specs.Line.{Line, Tag, S, C, X, D, P, B, R, E, other, rank, is, tagOf, isRising}
-use Rattle.meaning.specs.File.{axisIn, stops, refusalAt, readingsIn, endedIn, filingIn}
-use Rattle.meaning.specs.Blocks.{World, readingsOf}
+use Rattle.meaning.specs.File.{axisIn, rulesOut, refusalAt, readingsIn, endedIn, filingIn}
+use Rattle.meaning.specs.Blocks.{Blocks, readingsOf}
 use Rattle.meaning.specs.Record.{Rec, historyOfSite, contentsFit, filingHeld, filingOf}
-use Rattle.meaning.specs.Calls.{talliesAfter, recAfter, worldAfter}
-use Rattle.demands.proofs.Held.Parts.{HeldRec, HeldWorld}
+use Rattle.meaning.specs.Calls.{talliesAfter, recAfter, blocksAfter}
+use Rattle.demands.proofs.Held.Parts.{HeldRec, HeldBlocks}
 use Rattle.demands.proofs.Held.Order.{clear}
 use Rattle.demands.proofs.Held.Sites.{placed, Onward, history-held, history-after, axis-held, axis-after, axis-lines, axis-longer}
 use Rattle.demands.proofs.Held.Spans.{history-count, axis-count}
@@ -35,13 +35,13 @@ use Rattle.demands.proofs.Held.Lines.{points-in, profiles-in, kinds-in,
 use Rattle.demands.proofs.Held.Start.{never-nil}
 
 -- ---- no line writes the curve
-same-curve : (t : Tag) (l : Line) (s : Rec) (w : World) → worldAfter t l s w .curve ≡ w .curve
-unfolding worldAfter
+same-curve : (t : Tag) (l : Line) (s : Rec) (w : Blocks) → blocksAfter t l s w .curve ≡ w .curve
+unfolding blocksAfter
 same-curve t l s w = refl
 
 -- ---- E is the last line
-end-stops : (k t : Tag) → T (not (stops k t)) → T (not (is E k))
-unfolding stops
+end-stops : (k t : Tag) → T (not (rulesOut k t)) → T (not (is E k))
+unfolding rulesOut
 end-stops k t h = or-split (is S t) (is E k) (or-split (ltb (rank t) (rank k)) (is S t || is E k) h .1) .1
 
 is-end : (t : Tag) → eqb (rank t) 8 ≡ is E t
@@ -64,7 +64,7 @@ ended-step ls l e =
     absurd (both-not (is E (tagOf m)) a (end-stops (tagOf m) (tagOf l) b))))
 
 -- ---- any later line
-module _ (ls : List Line) (l : Line) (s : Rec) (w : World) (r : HeldRec ls s) (h : HeldWorld ls s w) (e : refusalAt ls l ≡ none) (o : Onward ls l s) where
+module _ (ls : List Line) (l : Line) (s : Rec) (w : Blocks) (r : HeldRec ls s) (h : HeldBlocks ls s w) (e : refusalAt ls l ≡ none) (o : Onward ls l s) where
   sizes : Sizes w
   sizes = sizes-of w (h .sized)
 
@@ -80,12 +80,12 @@ module _ (ls : List Line) (l : Line) (s : Rec) (w : World) (r : HeldRec ls s) (h
   unfolding filingHeld filingIn
   readings-before = ap (λ (F : Filing). F .readings) before
 
-  readings-after : readingsOf (worldAfter (tagOf l) l s w) (cond (is X (tagOf l)) (s .readings + 1) (s .readings)) ≡ readingsIn (ls ++ (l ∷ []))
+  readings-after : readingsOf (blocksAfter (tagOf l) l s w) (cond (is X (tagOf l)) (s .readings + 1) (s .readings)) ≡ readingsIn (ls ++ (l ∷ []))
   readings-after = readings-step ls l s w sizes (axis-held o ∙ sym (axis-lines o)) same-axis (has-room ls l e s r) readings-before
 
   -- ---- the look-ups
   fields : filingHeld (s .site) (cond (is X (tagOf l)) (s .readings + 1) (s .readings))
-      (talliesAfter (historyOfSite (s .site)) (axisYears (historyOfSite (s .site))) (tagOf l) l (s .tallies)) (eqb (rank (tagOf l)) 8) (worldAfter (tagOf l) l s w)
+      (talliesAfter (historyOfSite (s .site)) (axisYears (historyOfSite (s .site))) (tagOf l) l (s .tallies)) (eqb (rank (tagOf l)) 8) (blocksAfter (tagOf l) l s w)
       ≡ filingIn (ls ++ (l ∷ []))
   unfolding filingHeld filingIn talliesAfter isRising
   fields = λ i. record {
@@ -106,18 +106,18 @@ module _ (ls : List Line) (l : Line) (s : Rec) (w : World) (r : HeldRec ls s) (h
     ca = λ y. caOf y (sym (o .longer) i .filiere);
   }
 
-  filing-step : filingOf (recAfter (tagOf l) l s) (worldAfter (tagOf l) l s w) ≡ filingIn (ls ++ (l ∷ []))
+  filing-step : filingOf (recAfter (tagOf l) l s) (blocksAfter (tagOf l) l s w) ≡ filingIn (ls ++ (l ∷ []))
   unfolding filingOf recAfter
   filing-step =
       (λ i. filingHeld (o .after i) (cond (is X (tagOf l)) (s .readings + 1) (s .readings))
-      (talliesAfter (history-held o i) (axis-held o i) (tagOf l) l (s .tallies)) (eqb (rank (tagOf l)) 8) (worldAfter (tagOf l) l s w)) ∙ fields
+      (talliesAfter (history-held o i) (axis-held o i) (tagOf l) l (s .tallies)) (eqb (rank (tagOf l)) 8) (blocksAfter (tagOf l) l s w)) ∙ fields
 
   -- ---- the contents
   contents-before : Contents (historyOfSite (s .site)) (axisYears (historyOfSite (s .site))) (s .site .al) w (readingsIn ls)
   contents-before = rw (history-held o, axis-held o, readings-before) at (contents-of s w (h .contents))
 
-  contents-after : Contents (historyOfSite (s .site)) (axisYears (historyOfSite (s .site))) (s .site .al) (worldAfter (tagOf l) l s w) (readingsIn (ls ++ (l ∷ [])))
-  unfolding worldAfter isRising
+  contents-after : Contents (historyOfSite (s .site)) (axisYears (historyOfSite (s .site))) (s .site .al) (blocksAfter (tagOf l) l s w) (readingsIn (ls ++ (l ∷ [])))
+  unfolding blocksAfter isRising
   contents-after = record {
     near = near-fits (s .site) l (on-C ls l e s o) (points-in ls l e) (w .near) (contents-before .near);
     far = far-fits (s .site) l (on-C ls l e s o) (points-in ls l e) (w .far) (contents-before .far);
@@ -127,14 +127,14 @@ module _ (ls : List Line) (l : Line) (s : Rec) (w : World) (r : HeldRec ls s) (h
         (rw (axis-lines o) (contents-before .readings)));
   }
 
-  contents-step : T (contentsFit (recAfter (tagOf l) l s) (worldAfter (tagOf l) l s w))
+  contents-step : T (contentsFit (recAfter (tagOf l) l s) (blocksAfter (tagOf l) l s w))
   unfolding recAfter
   contents-step =
-      contents-fit (recAfter (tagOf l) l s) (worldAfter (tagOf l) l s w) (rw (history-after o, axis-after o, o .kept, readings-after) contents-after)
+      contents-fit (recAfter (tagOf l) l s) (blocksAfter (tagOf l) l s w) (rw (history-after o, axis-after o, o .kept, readings-after) contents-after)
 
-  pub world-later : HeldWorld (ls ++ (l ∷ [])) (recAfter (tagOf l) l s) (worldAfter (tagOf l) l s w)
-  world-later = record {
-    sized = sizes-fit (worldAfter (tagOf l) l s w) (sizes-after (tagOf l) l s w sizes);
+  pub blocks-later : HeldBlocks (ls ++ (l ∷ [])) (recAfter (tagOf l) l s) (blocksAfter (tagOf l) l s w)
+  blocks-later = record {
+    sized = sizes-fit (blocksAfter (tagOf l) l s w) (sizes-after (tagOf l) l s w sizes);
     filing = filing-step;
     contents = contents-step;
     curve = same-curve (tagOf l) l s w ∙ h .curve;

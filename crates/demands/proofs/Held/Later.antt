@@ -11,8 +11,8 @@ use Rattle.calendar.specs.Spans.{among}
 use Rattle.meaning.specs.Filing.{Site, noSite}
 use Rattle.meaning.specs.Line.{Line, S, C, X, D, P, B, R, rank, is, tagOf, numberAt, yearOn, monthOn, dayOn, keyOf, siteOn, mostIndex}
 use Rattle.meaning.specs.Refusals.{misplaced, tooMany, holds, refusal, mostReadings}
-use Rattle.meaning.specs.Record.{Rec, isTaken, siteOfRec, historyOfRec, axisOfRec, isWithin, siteFits, dateFits, yearFits, barredBy, beforeOf}
-use Rattle.meaning.specs.Calls.{lastsAfter, talliesAfter, recAfter}
+use Rattle.meaning.specs.Record.{Rec, isTaken, siteOfRec, historyOfRec, axisOfRec, isWithin, siteFits, dateFits, yearFits, misplacedBy, beforeOf}
+use Rattle.meaning.specs.Calls.{lastDatesAfter, talliesAfter, recAfter}
 use Rattle.meaning.proofs.Passed.{passed}
 use Rattle.meaning.proofs.Accepted.{rate-in, is-tag}
 use Rattle.demands.proofs.Held.Counts.{datesBy, winterDatesBy, yearsBy, linesBy}
@@ -53,7 +53,7 @@ site-fits false true false x y h t u f = absurd u
 site-fits false false c x y h t u f = absurd t
 
 module _ (s : Rec) (l : Line) (e : refusal (beforeOf s) l ≡ none) (n : T (not (is S (tagOf l)))) (k : Kept s) where
-  placed : T (not (barredBy (s .last) (s .site .meter) (tagOf l)))
+  placed : T (not (misplacedBy (s .last) (s .site .meter) (tagOf l)))
   unfolding holds beforeOf
   placed = passed (beforeOf s) l e misplaced
 
@@ -77,8 +77,8 @@ module _ (s : Rec) (l : Line) (e : refusal (beforeOf s) l ≡ none) (n : T (not 
   unfolding holds beforeOf
   many = passed (beforeOf s) l e tooMany
 
-  lasts-later : LastsIn (historyOfRec s) (lastsAfter (tagOf l) l (s .lasts))
-  unfolding lastsAfter keyOf axisOfRec
+  lasts-later : LastsIn (historyOfRec s) (lastDatesAfter (tagOf l) l (s .lasts))
+  unfolding lastDatesAfter keyOf axisOfRec
   lasts-later = record {
     c =
         picked (dateFits (historyOfRec s) true) (is C (tagOf l)) (keyOf C l) (s .lasts .c) (k .lasts .c)
@@ -97,7 +97,7 @@ module _ (s : Rec) (l : Line) (e : refusal (beforeOf s) l ≡ none) (n : T (not 
   }
 
   few-later : s .count + 1 ≤ linesBy (recAfter (tagOf l) l s)
-  unfolding linesBy recAfter lastsAfter
+  unfolding linesBy recAfter lastDatesAfter
   few-later = rw (same-span, same-axis) (omega (
     arith,
     k .few,
@@ -112,7 +112,7 @@ module _ (s : Rec) (l : Line) (e : refusal (beforeOf s) l ≡ none) (n : T (not 
   ))
 
   pub kept-later : Kept (recAfter (tagOf l) l s)
-  unfolding recAfter lastsAfter talliesAfter isTaken
+  unfolding recAfter lastDatesAfter talliesAfter isTaken
   kept-later = record {
     sited = site-fits (is S (tagOf l)) (not (eqb (rank (tagOf l)) 0)) (not (eqb (s .last) 0)) (siteOn l) (s .site) n (known-tag (beforeOf s) l e) taken (k .sited);
     timely = rw (is-false (is S (tagOf l)) n) (k .timely);

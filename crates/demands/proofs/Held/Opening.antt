@@ -1,4 +1,4 @@
--- Before S, and when it is taken, record and blocks are fresh: they say the site, and of all else nothing.
+-- Before S, and when it is taken, record and blocks are fresh: they hold the site and nothing else.
 use mathlib.Core.Path.{_≡_, refl, ap}
 use mathlib.Core.Bool.{Bool, true, false, not, _&&_, cond}
 use mathlib.Core.List.{[], _∷_}
@@ -14,7 +14,7 @@ use Rattle.note.specs.Coefficients.{caOf}
 use Rattle.meaning.specs.Filing.{Site, noSite, Filing}
 use Rattle.meaning.specs.Line.{Line, S, D, P, tagOf, siteOn}
 use Rattle.meaning.specs.File.{siteIn, pointOn, pointIn, profileOn, profileIn, dailyOn, dailyIn, readingOn, readingsIn, brokenIn, rateIn, datesIn, endedIn, filingIn}
-use Rattle.meaning.specs.Blocks.{missingPoint, pointsSize, slotsSize, dailySize, pointOfCode, isNear, nearStart, farStart, slotsStart, slotAt, codeAt, readingsOf, freshWorld}
+use Rattle.meaning.specs.Blocks.{missingPoint, pointsSize, slotsSize, dailySize, pointOfCode, isNear, nearStart, farStart, slotsStart, slotAt, codeAt, readingsOf, freshBlocks}
 use Rattle.meaning.specs.Record.{emptyRec, freshRec, historyOfSite, pointHeld, profileHeld, dailyHeld, byYear, rateOfCode, filingHeld}
 
 -- a filing of a site alone
@@ -38,26 +38,26 @@ both-ways : {A : Type 0} (b : Bool) (x y d : A) → x ≡ d → y ≡ d → cond
 both-ways true x y d e f = e
 both-ways false x y d e f = f
 
-fresh-point : (t : Site) (y v h : ℕ) → pointHeld t freshWorld y v h ≡ none
-unfolding pointHeld codeAt freshWorld pointOfCode
+fresh-point : (t : Site) (y v h : ℕ) → pointHeld t freshBlocks y v h ≡ none
+unfolding pointHeld codeAt freshBlocks pointOfCode
 fresh-point t y v h =
     both-ways (among (historyOfSite t) y && (ltb v 152 && ltb h 20)) _ none none
     (ap pointOfCode (both-ways (isNear (t .al) y) _ _ missingPoint (getD-fresh pointsSize (nearStart (t .al) y + slotAt v h) missingPoint)
     (getD-fresh pointsSize (farStart (t .al) y + slotAt v h) missingPoint))) refl
 
-fresh-profile : (h : Years) (y v k : ℕ) → profileHeld h freshWorld y v k ≡ 0
-unfolding profileHeld freshWorld
+fresh-profile : (h : Years) (y v k : ℕ) → profileHeld h freshBlocks y v k ≡ 0
+unfolding profileHeld freshBlocks
 fresh-profile h y v k = both-ways (among h y && (ltb v 152 && ltb k 20)) _ 0 0 (getD-fresh slotsSize (slotsStart (h .first) y + slotAt v k) 0) refl
 
-fresh-daily : (axis : Years) (y p : ℕ) → dailyHeld axis freshWorld y p ≡ 0
-unfolding dailyHeld freshWorld
+fresh-daily : (axis : Years) (y p : ℕ) → dailyHeld axis freshBlocks y p ≡ 0
+unfolding dailyHeld freshBlocks
 fresh-daily axis y p = both-ways (among axis y && ltb p 366) _ 0 0 (getD-fresh dailySize (366 * (y - axis .first) + p) 0) refl
 
 fresh-number : (span : Years) (n y : ℕ) → byYear span (replicate n 0) y ≡ 0
 unfolding byYear
 fresh-number span n y = both-ways (among span y) _ 0 0 (getD-fresh n (y - span .first) 0) refl
 
-pub fresh-held : (t : Site) → filingHeld t 0 (freshRec .tallies) false freshWorld ≡ bare t
+pub fresh-held : (t : Site) → filingHeld t 0 (freshRec .tallies) false freshBlocks ≡ bare t
 unfolding filingHeld bare freshRec emptyRec readingsOf tab rateOfCode
 fresh-held t = λ i. record {
   site = t;

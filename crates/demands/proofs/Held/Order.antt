@@ -14,8 +14,8 @@ use Rattle.text.specs.Fields.{tabs}
 use Rattle.meaning.specs.Filing.{Meter, Site, noSite}
 use Rattle.meaning.specs.Line.{Line, Tag, S, C, X, D, P, B, R, E, other, rank, is, size, tagOf, siteOn}
 use Rattle.meaning.specs.Refusals.{Before, unknown, holds, isUnknown, refusal}
-use Rattle.meaning.specs.File.{siteIn, stops, isIndexMeter, barredIn}
-use Rattle.meaning.specs.Record.{barredBy}
+use Rattle.meaning.specs.File.{siteIn, rulesOut, isIndexMeter, misplacedIn}
+use Rattle.meaning.specs.Record.{misplacedBy}
 use Rattle.meaning.proofs.Passed.{passed}
 
 -- ---- an accepted line's tag is known
@@ -38,8 +38,8 @@ known-tag b l e = go (tagOf l) (passed b l e unknown)
     go other h = not-none (tabs l) h
 
 -- ---- first and later lines, by the rank of the last tag
-pub first-line : (n : ℕ) (m : Meter) (t : Tag) → T (not (barredBy n m t)) → T (is S t) → n ≡ 0
-unfolding barredBy
+pub first-line : (n : ℕ) (m : Meter) (t : Tag) → T (not (misplacedBy n m t)) → T (is S t) → n ≡ 0
+unfolding misplacedBy
 first-line zero m t h u = refl
 first-line (suc n) m t h u = absurd (go (ltb (rank t) (suc n)) (is S t) (eqb 8 (suc n)) (is C t && isIndexMeter m) u h)
   where
@@ -48,8 +48,8 @@ first-line (suc n) m t h u = absurd (go (ltb (rank t) (suc n)) (is S t) (eqb 8 (
     go false true c d u h = h
     go false false c d u h = u
 
-pub later-line : (n : ℕ) (m : Meter) (t : Tag) → T (not (barredBy n m t)) → T (not (is S t)) → T (not (eqb n 0))
-unfolding barredBy
+pub later-line : (n : ℕ) (m : Meter) (t : Tag) → T (not (misplacedBy n m t)) → T (not (is S t)) → T (not (eqb n 0))
+unfolding misplacedBy
 later-line zero m t h u = absurd (go (is S t) h u)
   where
     go : (b : Bool) → T (not (not b)) → T (not b) → ⊥
@@ -57,12 +57,12 @@ later-line zero m t h u = absurd (go (is S t) h u)
     go false h u = h
 later-line (suc n) m t h u = rw (ne-eqb (suc n) 0 (λ e. omega arith)) tt
 
--- ---- what stops a tag
--- no earlier line stops an accepted one
-pub clear : (ls : List Line) (t : Tag) → T (not (barredIn ls t)) → Each (λ (m : Line). T (not (stops (tagOf m) t))) ls
-unfolding barredIn
+-- ---- what rules out a tag
+-- no earlier line rules out an accepted one
+pub clear : (ls : List Line) (t : Tag) → T (not (misplacedIn ls t)) → Each (λ (m : Line). T (not (rulesOut (tagOf m) t))) ls
+unfolding misplacedIn
 clear [] t h = each-nil
-clear (k ∷ ls) t h = any-each (λ (m : Line). stops (tagOf m) t) (k ∷ ls) (or-split (any (λ (m : Line). stops (tagOf m) t) (k ∷ ls)) _ h .0)
+clear (k ∷ ls) t h = any-each (λ (m : Line). rulesOut (tagOf m) t) (k ∷ ls) (or-split (any (λ (m : Line). rulesOut (tagOf m) t) (k ∷ ls)) _ h .0)
 
 lift : (a b c d e : Bool) → (T a → T b) → T (not d) → T (a || (c || d)) → T (b || (c || e))
 lift true true c d e f n h = tt
@@ -71,17 +71,17 @@ lift false true c d e f n h = tt
 lift false false true d e f n h = tt
 lift false false false d e f n h = absurd (both-not d h n)
 
--- what stops a tag stops it too through any tag that it lets pass
-stops-on : (k t u : Tag) → T (not (stops k t)) → T (stops k u) → T (stops t u)
-unfolding stops
+-- what rules out a tag rules it out too through any tag that it lets pass
+stops-on : (k t u : Tag) → T (not (rulesOut k t)) → T (rulesOut k u) → T (rulesOut t u)
+unfolding rulesOut
 stops-on k t u n h =
     let a = or-split (ltb (rank t) (rank k)) (is S t || is E k) n in
     let c : rank k ≤ rank t = nltb→le _ _ (a .0) in
     lift (ltb (rank u) (rank k)) (ltb (rank u) (rank t)) (is S u) (is E k) (is E t)
     (λ g. let d : rank u < rank k = ltb→lt (rank u) (rank k) g in lt→ltb (rank u) (rank t) (omega arith)) (or-split (is S t) (is E k) (a .1) .1) h
 
-by-tag : (t : Tag) (m : Meter) (u : Tag) → T (not (eqb (rank t) 0)) → barredBy (rank t) m u ≡ (stops t u || (is C u && isIndexMeter m))
-unfolding barredBy stops
+by-tag : (t : Tag) (m : Meter) (u : Tag) → T (not (eqb (rank t) 0)) → misplacedBy (rank t) m u ≡ (rulesOut t u || (is C u && isIndexMeter m))
+unfolding misplacedBy rulesOut
 by-tag S m u h = refl
 by-tag C m u h = refl
 by-tag X m u h = refl
@@ -93,30 +93,30 @@ by-tag E m u h = refl
 by-tag other m u h = absurd h
 
 barred-snoc : (ls : List Line) (l : Line) (u : Tag)
-    → barredIn (ls ++ (l ∷ [])) u ≡ (any (λ (m : Line). stops (tagOf m) u) (ls ++ (l ∷ [])) || (is C u && isIndexMeter (siteIn (ls ++ (l ∷ [])) .meter)))
-unfolding barredIn
+    → misplacedIn (ls ++ (l ∷ [])) u ≡ (any (λ (m : Line). rulesOut (tagOf m) u) (ls ++ (l ∷ [])) || (is C u && isIndexMeter (siteIn (ls ++ (l ∷ [])) .meter)))
+unfolding misplacedIn
 barred-snoc [] l u = refl
 barred-snoc (k ∷ ls) l u = refl
 
-stops-snoc : (ls : List Line) (l : Line) → T (not (barredIn ls (tagOf l))) → (u : Tag) → stops (tagOf l) u ≡ any (λ (m : Line). stops (tagOf m) u) (ls ++ (l ∷ []))
+stops-snoc : (ls : List Line) (l : Line) → T (not (misplacedIn ls (tagOf l))) → (u : Tag) → rulesOut (tagOf l) u ≡ any (λ (m : Line). rulesOut (tagOf m) u) (ls ++ (l ∷ []))
 stops-snoc ls l n u =
-    sym (any-snoc (λ (m : Line). stops (tagOf m) u) ls l ∙ or-absorb (any (λ (m : Line). stops (tagOf m) u) ls) (stops (tagOf l) u)
-    (λ h. let (m, a, b) = paired (any-some (λ (m : Line). stops (tagOf m) u) ls h) (clear ls (tagOf l) n) in stops-on (tagOf m) (tagOf l) u b a))
+    sym (any-snoc (λ (m : Line). rulesOut (tagOf m) u) ls l ∙ or-absorb (any (λ (m : Line). rulesOut (tagOf m) u) ls) (rulesOut (tagOf l) u)
+    (λ h. let (m, a, b) = paired (any-some (λ (m : Line). rulesOut (tagOf m) u) ls h) (clear ls (tagOf l) n) in stops-on (tagOf m) (tagOf l) u b a))
 
-pub barred-step : (ls : List Line) (l : Line) (m : Meter) → m ≡ siteIn (ls ++ (l ∷ [])) .meter → T (not (eqb (rank (tagOf l)) 0)) → T (not (barredIn ls (tagOf l)))
-    → (u : Tag) → barredBy (rank (tagOf l)) m u ≡ barredIn (ls ++ (l ∷ [])) u
+pub barred-step : (ls : List Line) (l : Line) (m : Meter) → m ≡ siteIn (ls ++ (l ∷ [])) .meter → T (not (eqb (rank (tagOf l)) 0)) → T (not (misplacedIn ls (tagOf l)))
+    → (u : Tag) → misplacedBy (rank (tagOf l)) m u ≡ misplacedIn (ls ++ (l ∷ [])) u
 barred-step ls l m e k n u = by-tag (tagOf l) m u k ∙ rw (barred-snoc ls l u, ← stops-snoc ls l n u, e)
 
 -- ---- S is the first line, so what it says stays
-site-clear : (m : Line) → T (not (stops (tagOf m) S)) → cond (is S (tagOf m)) (some (siteOn m)) none ≡ none
-unfolding stops
+site-clear : (m : Line) → T (not (rulesOut (tagOf m) S)) → cond (is S (tagOf m)) (some (siteOn m)) none ≡ none
+unfolding rulesOut
 site-clear m h = absurd (or-split (ltb 1 (rank (tagOf m))) true h .1)
 
 site-by : (b : Bool) (x y : Site) (o : Option Site) → y ≡ orElse o noSite → (T b → o ≡ none) → cond b x y ≡ orElse (or o (cond b (some x) none)) noSite
 site-by true x y o e n = rw (n tt)
 site-by false x y o e n = rw (or-none o) e
 
-pub site-step : (ls : List Line) (l : Line) (x : Site) → x ≡ siteIn ls → (T (is S (tagOf l)) → T (not (barredIn ls S)))
+pub site-step : (ls : List Line) (l : Line) (x : Site) → x ≡ siteIn ls → (T (is S (tagOf l)) → T (not (misplacedIn ls S)))
     → cond (is S (tagOf l)) (siteOn l) x ≡ siteIn (ls ++ (l ∷ []))
 unfolding siteIn
 site-step ls l x e n =

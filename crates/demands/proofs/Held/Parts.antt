@@ -9,8 +9,8 @@ use Rattle.calendar.specs.declared.Years.{Years}
 use Rattle.calendar.specs.Dates.{isDay, isWinter}
 use Rattle.meaning.specs.Line.{Line, X, is, tagOf, yearOn, monthOn, dayOn, hasDateOn, isWinterTag}
 use Rattle.meaning.specs.File.{siteIn, axisIn, beforeIn, filingIn}
-use Rattle.meaning.specs.Blocks.{World, sizesFit, freshWorld}
-use Rattle.meaning.specs.Record.{Rec, Tallies, freshRec, historyOfRec, axisOfRec, eachYear, recFits, contentsFit, beforeOf, filingOf}
+use Rattle.meaning.specs.Blocks.{Blocks, sizesFit, freshBlocks}
+use Rattle.meaning.specs.Record.{openState, Rec, Tallies, freshRec, historyOfRec, axisOfRec, eachYear, recFits, contentsFit, beforeOf, filingOf}
 use Rattle.meaning.specs.Sheet.{noCurve}
 use Rattle.demands.proofs.Held.Counts.{datesBy, winterDatesBy, linesBy}
 
@@ -21,9 +21,9 @@ pub record Shaped (k : Tallies) : Type 0 where
   pub breaks : length (k .breaks) ≡ 10
   pub rates : length (k .rates) ≡ 10
 
--- the record judges a further line as the lines do
+-- the record checks a further line as the lines do
 pub record HeldRec (ls : List Line) (s : Rec) : Type 0 where
-  pub opened : s .state ≡ 1
+  pub opened : s .state ≡ openState
   pub site : s .site ≡ siteIn ls
   pub before : beforeOf s ≡ beforeIn ls
   pub shaped : Shaped (s .tallies)
@@ -41,11 +41,11 @@ pub record Dated (axis : Years) (l : Line) : Type 0 where
   pub year : T (is X (tagOf l)) → axis .first ≤ yearOn l
 
 -- record and blocks say what the lines say
-pub record HeldWorld (ls : List Line) (s : Rec) (w : World) : Type 0 where
+pub record HeldBlocks (ls : List Line) (s : Rec) (w : Blocks) : Type 0 where
   pub sized : T (sizesFit w)
   pub filing : filingOf s w ≡ filingIn ls
   pub contents : T (contentsFit s w)
   pub curve : w .curve ≡ noCurve
   -- until a line is taken both are fresh
-  pub unread : ls ≡ [] → (s ≡ freshRec) × (w ≡ freshWorld)
+  pub unread : ls ≡ [] → (s ≡ freshRec) × (w ≡ freshBlocks)
   pub dated : Each (Dated (axisIn ls)) ls

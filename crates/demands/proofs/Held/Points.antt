@@ -17,9 +17,9 @@ use Rattle.calendar.specs.declared.Years.{Years}
 use Rattle.calendar.specs.Spans.{among}
 use Rattle.meaning.specs.Line.{Line, C, is, tagOf, yearOn, pointOf, winterOn}
 use Rattle.meaning.specs.File.{pointOn, pointIn}
-use Rattle.meaning.specs.Blocks.{World, missingPoint, codeOfPoint, pointOfCode, isNear, nearStart, farStart, codeAt}
+use Rattle.meaning.specs.Blocks.{Blocks, missingPoint, codeOfPoint, pointOfCode, isNear, nearStart, farStart, codeAt}
 use Rattle.meaning.specs.Record.{Rec, historyOfSite, pointHeld}
-use Rattle.meaning.specs.Calls.{pointCodes, worldAfter}
+use Rattle.meaning.specs.Calls.{pointCodes, blocksAfter}
 use Rattle.meaning.proofs.Accepted.{WinterLine, PointFits}
 use Rattle.demands.proofs.Held.Parts.{Dated}
 use Rattle.demands.proofs.Held.Spans.{near-row, far-row}
@@ -56,10 +56,10 @@ kept-by true false true near far vs p i q j d f g = refl
 kept-by true false false near far vs p i q j d f g = g tt tt tt
 kept-by false a n near far vs p i q j d f g = refl
 
-module _ (s : Rec) (w : World) (l : Line) (z : Sizes w) where
+module _ (s : Rec) (w : Blocks) (l : Line) (z : Sizes w) where
   code-stored : T (is C (tagOf l)) → WinterLine (historyOfSite (s .site)) l → (h : ℕ) → h < 20
-      → codeAt (s .site .al) (worldAfter (tagOf l) l s w) (yearOn l) (winterOn l) h ≡ codeOfPoint (pointOf l h)
-  unfolding codeAt worldAfter nearStart farStart
+      → codeAt (s .site .al) (blocksAfter (tagOf l) l s w) (yearOn l) (winterOn l) h ≡ codeOfPoint (pointOf l h)
+  unfolding codeAt blocksAfter nearStart farStart
   code-stored c a h k =
       rw (is-true (is C (tagOf l)) c) (stored-by (isNear (s .site .al) (yearOn l)) (w .near) (w .far) (pointCodes l) _ _ _ _ missingPoint (codeOfPoint (pointOf l h))
       (λ n. row-stored (w .near) (pointCodes l) (yearOn l - (s .site .al - 9)) (winterOn l) h missingPoint (length-codes l) (line-placed a .below) k
@@ -69,8 +69,8 @@ module _ (s : Rec) (w : World) (l : Line) (z : Sizes w) where
 
   code-kept : (T (is C (tagOf l)) → WinterLine (historyOfSite (s .site)) l) → (y v h : ℕ)
       → T (not (is C (tagOf l) && (eqb (yearOn l) y && (eqb (winterOn l) v && ltb h 20)))) → T (among (historyOfSite (s .site)) y) → v < 152 → h < 20
-      → codeAt (s .site .al) (worldAfter (tagOf l) l s w) y v h ≡ codeAt (s .site .al) w y v h
-  unfolding codeAt worldAfter nearStart farStart
+      → codeAt (s .site .al) (blocksAfter (tagOf l) l s w) y v h ≡ codeAt (s .site .al) w y v h
+  unfolding codeAt blocksAfter nearStart farStart
   code-kept a y v h n b i j =
       kept-by (is C (tagOf l)) (isNear (s .site .al) (yearOn l)) (isNear (s .site .al) y) (w .near) (w .far) (pointCodes l) _ _ _ _ missingPoint
       (λ c f g. row-kept (w .near) (pointCodes l) (yearOn l - (s .site .al - 9)) (winterOn l) (y - (s .site .al - 9)) v h missingPoint (length-codes l)
@@ -82,7 +82,7 @@ module _ (s : Rec) (w : World) (l : Line) (z : Sizes w) where
 
   -- ---- and so the point
   point-stored : T (is C (tagOf l)) → WinterLine (historyOfSite (s .site)) l → ((h : ℕ) → h < 20 → PointFits (pointOf l h)) → (h : ℕ) → h < 20
-      → pointHeld (s .site) (worldAfter (tagOf l) l s w) (yearOn l) (winterOn l) h ≡ pointOf l h
+      → pointHeld (s .site) (blocksAfter (tagOf l) l s w) (yearOn l) (winterOn l) h ≡ pointOf l h
   unfolding pointHeld
   point-stored c a f h k =
       rw (is-within (among (historyOfSite (s .site)) (yearOn l)) (winterOn l) h (a .year) (line-placed a .below) k, code-stored c a h k)
@@ -90,21 +90,21 @@ module _ (s : Rec) (w : World) (l : Line) (z : Sizes w) where
 
   point-kept : (T (is C (tagOf l)) → WinterLine (historyOfSite (s .site)) l) → (y v h : ℕ)
       → T (not (is C (tagOf l) && (eqb (yearOn l) y && (eqb (winterOn l) v && ltb h 20))))
-      → pointHeld (s .site) (worldAfter (tagOf l) l s w) y v h ≡ pointHeld (s .site) w y v h
+      → pointHeld (s .site) (blocksAfter (tagOf l) l s w) y v h ≡ pointHeld (s .site) w y v h
   unfolding pointHeld
   point-kept a y v h n =
-      where-same (among (historyOfSite (s .site)) y && (ltb v 152 && ltb h 20)) (pointOfCode (codeAt (s .site .al) (worldAfter (tagOf l) l s w) y v h))
+      where-same (among (historyOfSite (s .site)) y && (ltb v 152 && ltb h 20)) (pointOfCode (codeAt (s .site .al) (blocksAfter (tagOf l) l s w) y v h))
       (pointOfCode (codeAt (s .site .al) w y v h)) none
       (λ t. let i = within (among (historyOfSite (s .site)) y) v h t in ap pointOfCode (code-kept a y v h n (i .year) (i .place) (i .half)))
 
-pub point-step : {axis : Years} (ls : List Line) (l : Line) (s : Rec) (w : World) → Sizes w → Each (Dated axis) ls
+pub point-step : {axis : Years} (ls : List Line) (l : Line) (s : Rec) (w : Blocks) → Sizes w → Each (Dated axis) ls
     → (T (is C (tagOf l)) → WinterLine (historyOfSite (s .site)) l) → (T (is C (tagOf l)) → (h : ℕ) → h < 20 → PointFits (pointOf l h))
     → (T (is C (tagOf l)) → Each (Short C l) ls) → (y v h : ℕ) → pointHeld (s .site) w y v h ≡ pointIn ls y v h
-    → pointHeld (s .site) (worldAfter (tagOf l) l s w) y v h ≡ pointIn (ls ++ (l ∷ [])) y v h
+    → pointHeld (s .site) (blocksAfter (tagOf l) l s w) y v h ≡ pointIn (ls ++ (l ∷ [])) y v h
 unfolding pointIn pointOn
 point-step {axis} ls l s w z k a f short y v h e =
     found (λ o. orElse o none) (pointOn y v h) ls l (is C (tagOf l) && (eqb (yearOn l) y && (eqb (winterOn l) v && ltb h 20))) (pointOf l h)
-    (pointHeld (s .site) (worldAfter (tagOf l) l s w) y v h) (pointHeld (s .site) w y v h) refl e
+    (pointHeld (s .site) (blocksAfter (tagOf l) l s w) y v h) (pointHeld (s .site) w y v h) refl e
     (λ t. let n = names C l y (eqb (winterOn l) v && ltb h 20) t in let p = at-place l v h (n .date) in
     each-map (λ m g. rw (winter-free C l m y v h tt tt (a (n .tag)) (g .0) (g .1) (n .year) (p .0))) (each-both k (short (n .tag))))
     (λ t. let n = names C l y (eqb (winterOn l) v && ltb h 20) t in let p = at-place l v h (n .date) in

@@ -1,4 +1,4 @@
--- Readings: after an X line the columns hold what the lines say.
+-- Readings: after an X line the lent list holds what the lines say.
 use mathlib.Core.Path.{_≡_, ap, sym, _∙_}
 use mathlib.Core.Bool.{Bool, true, false, cond}
 use mathlib.Core.List.{List, [], _∷_, _++_, append-nil}
@@ -15,9 +15,9 @@ use Rattle.lists.proofs.Tables.{tab-snoc, tab-same, present-snoc}
 use Rattle.meaning.specs.Filing.{Reading}
 use Rattle.meaning.specs.Line.{Line, X, is, tagOf}
 use Rattle.meaning.specs.File.{axisIn, readingOn, readingsIn}
-use Rattle.meaning.specs.Blocks.{World, readingsSize, freshReading, readingsOf}
+use Rattle.meaning.specs.Blocks.{Blocks, readingsSize, freshReading, readingsOf}
 use Rattle.meaning.specs.Record.{Rec, axisOfRec}
-use Rattle.meaning.specs.Calls.{positionOn, readingAt, worldAfter}
+use Rattle.meaning.specs.Calls.{positionOn, readingAt, blocksAfter}
 use Rattle.meaning.proofs.Sizes.{Sizes}
 
 -- ---- of the lines: one more where the line is X
@@ -45,10 +45,10 @@ unfolding present
 more-by true qs rs n r a e = more rs n r (a tt) ∙ ap (λ (q : List Reading). q ++ (r ∷ [])) e
 more-by false qs rs n r a e = e ∙ sym (append-nil qs)
 
-pub readings-step : (ls : List Line) (l : Line) (s : Rec) (w : World) → Sizes w → axisOfRec s ≡ axisIn ls → axisIn (ls ++ (l ∷ [])) ≡ axisIn ls
+pub readings-step : (ls : List Line) (l : Line) (s : Rec) (w : Blocks) → Sizes w → axisOfRec s ≡ axisIn ls → axisIn (ls ++ (l ∷ [])) ≡ axisIn ls
     → (T (is X (tagOf l)) → s .readings < readingsSize) → readingsOf w (s .readings) ≡ readingsIn ls
-    → readingsOf (worldAfter (tagOf l) l s w) (cond (is X (tagOf l)) (s .readings + 1) (s .readings)) ≡ readingsIn (ls ++ (l ∷ []))
-unfolding readingsOf worldAfter readingOn readingAt positionOn
+    → readingsOf (blocksAfter (tagOf l) l s w) (cond (is X (tagOf l)) (s .readings + 1) (s .readings)) ≡ readingsIn (ls ++ (l ∷ []))
+unfolding readingsOf blocksAfter readingOn readingAt positionOn
 readings-step ls l s w z same longer n e =
     rw (same, readings-snoc ls l longer)
     (more-by (is X (tagOf l)) (readingsIn ls) (w .readings) (s .readings) _ (λ x. omega (arith, n x, z .readings)) e)

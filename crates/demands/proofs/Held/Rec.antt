@@ -14,8 +14,8 @@ use Rattle.calendar.specs.Spans.{isKnown, historyYears, axisYears}
 use Rattle.meaning.specs.Filing.{Site, noSite}
 use Rattle.meaning.specs.Line.{Line, Tag, S, C, X, D, P, B, R, E, other, rank, is, tagOf, numberAt, isRising}
 use Rattle.meaning.specs.Refusals.{Before, misplaced, holds, refusal, isTooSoon}
-use Rattle.meaning.specs.File.{siteIn, historyIn, barredIn, reachedIn, lastIndexIn, beforeIn, refusalAt}
-use Rattle.meaning.specs.Record.{Rec, emptyRec, freshRec, isTaken, siteOfRec, historyOfSite, historyOfRec, axisOfRec, isWithin, meterFits, siteFits, dateFits, yearFits, lastsFit, eachYear, talliesFit, recFits, barredBy, reachedBy, beforeOf}
+use Rattle.meaning.specs.File.{siteIn, historyIn, misplacedIn, notLaterIn, lastIndexIn, beforeIn, refusalAt}
+use Rattle.meaning.specs.Record.{openState, Rec, emptyRec, freshRec, isTaken, siteOfRec, historyOfSite, historyOfRec, axisOfRec, isWithin, meterFits, siteFits, dateFits, yearFits, lastDatesFit, eachYear, talliesFit, recFits, misplacedBy, notLaterBy, beforeOf}
 use Rattle.meaning.specs.Calls.{oneMore, talliesAfter, recAfter}
 use Rattle.meaning.proofs.Passed.{passed}
 use Rattle.meaning.proofs.Accepted.{is-tag}
@@ -29,8 +29,8 @@ use Rattle.demands.proofs.Held.First.{kept-first}
 use Rattle.demands.proofs.Held.Later.{kept-later}
 
 -- ---- a fresh record holds no line
-fresh-reached : (t : Tag) (d : ℕ) → reachedBy (freshRec .lasts) t d ≡ reachedIn [] t d
-unfolding freshRec emptyRec reachedBy reachedIn isRising any
+fresh-reached : (t : Tag) (d : ℕ) → notLaterBy (freshRec .lasts) t d ≡ notLaterIn [] t d
+unfolding freshRec emptyRec notLaterBy notLaterIn isRising any
 fresh-reached S d = refl
 fresh-reached C d = refl
 fresh-reached X d = refl
@@ -42,18 +42,18 @@ fresh-reached E d = refl
 fresh-reached other d = refl
 
 fresh-before : beforeOf freshRec ≡ beforeIn []
-unfolding beforeOf beforeIn freshRec emptyRec barredBy barredIn historyOfRec siteOfRec isTaken historyOfSite historyIn siteIn seek noSite lastIndexIn latest count
+unfolding beforeOf beforeIn freshRec emptyRec misplacedBy misplacedIn historyOfRec siteOfRec isTaken historyOfSite historyIn siteIn seek noSite lastIndexIn latest count
 fresh-before i = record {
-  barred = barredIn [];
+  misplaced = misplacedIn [];
   history = historyIn [];
-  reached = λ t d. fresh-reached t d i;
+  notLater = λ t d. fresh-reached t d i;
   lastIndex = 0;
   readings = 0;
   lines = 0;
 }
 
 pub rec-fresh : HeldRec [] freshRec
-unfolding freshRec emptyRec siteIn seek noSite recFits siteFits meterFits isTaken isTooSoon isWithin lastsFit dateFits yearFits talliesFit eachYear allAt historyOfRec axisOfRec siteOfRec historyOfSite historyYears axisYears isKnown
+unfolding freshRec emptyRec siteIn seek noSite recFits siteFits meterFits isTaken isTooSoon isWithin lastDatesFit dateFits yearFits talliesFit eachYear allAt historyOfRec axisOfRec siteOfRec historyOfSite historyYears axisYears isKnown
 rec-fresh = record {
   opened = refl;
   site = refl;
@@ -66,7 +66,7 @@ rec-fresh = record {
 }
 
 -- ---- an accepted line
--- what holding says, look-up by look-up
+-- what it is to hold the lines, look-up by look-up
 pub held-history : {ls : List Line} {s : Rec} → HeldRec ls s → historyOfRec s ≡ historyIn ls
 unfolding beforeOf beforeIn
 held-history h = ap (λ (b : Before). b .history) (h .before)
@@ -83,15 +83,15 @@ pub held-index : {ls : List Line} {s : Rec} → HeldRec ls s → s .lastIndex �
 unfolding beforeOf beforeIn
 held-index h = ap (λ (b : Before). b .lastIndex) (h .before)
 
-pub held-barred : {ls : List Line} {s : Rec} → HeldRec ls s → (t : Tag) → barredBy (s .last) (s .site .meter) t ≡ barredIn ls t
+pub held-barred : {ls : List Line} {s : Rec} → HeldRec ls s → (t : Tag) → misplacedBy (s .last) (s .site .meter) t ≡ misplacedIn ls t
 unfolding beforeOf beforeIn
-held-barred h t = ap (λ (b : Before). b .barred t) (h .before)
+held-barred h t = ap (λ (b : Before). b .misplaced t) (h .before)
 
-pub held-reached : {ls : List Line} {s : Rec} → HeldRec ls s → (t : Tag) (d : ℕ) → reachedBy (s .lasts) t d ≡ reachedIn ls t d
+pub held-reached : {ls : List Line} {s : Rec} → HeldRec ls s → (t : Tag) (d : ℕ) → notLaterBy (s .lasts) t d ≡ notLaterIn ls t d
 unfolding beforeOf beforeIn
-held-reached h t d = ap (λ (b : Before). b .reached t d) (h .before)
+held-reached h t d = ap (λ (b : Before). b .notLater t d) (h .before)
 
--- a line that the file accepts is one that the record does
+-- the record accepts a line where the file does
 pub held-refusal : {ls : List Line} {s : Rec} → HeldRec ls s → (l : Line) → refusal (beforeOf s) l ≡ refusalAt ls l
 unfolding refusalAt
 held-refusal h l = ap (λ (b : Before). refusal b l) (h .before)
@@ -134,7 +134,7 @@ readings-step : (ls : List Line) (l : Line) (n : ℕ) → n ≡ count (λ (m : L
 readings-step ls l n e = rw e (sym (count-snoc (λ (m : Line). is X (tagOf m)) ls l))
 
 module _ (ls : List Line) (l : Line) (s : Rec) (h : HeldRec ls s) (a : refusalAt ls l ≡ none) where
-  placed : T (not (barredIn ls (tagOf l)))
+  placed : T (not (misplacedIn ls (tagOf l)))
   unfolding refusalAt holds beforeIn
   placed = passed (beforeIn ls) l a misplaced
 
@@ -159,9 +159,9 @@ module _ (ls : List Line) (l : Line) (s : Rec) (h : HeldRec ls s) (a : refusalAt
   before-after : beforeOf (recAfter (tagOf l) l s) ≡ beforeIn (ls ++ (l ∷ []))
   unfolding beforeOf beforeIn recAfter
   before-after i = record {
-    barred = λ u. barred-step ls l (recAfter (tagOf l) l s .site .meter) (ap (λ (x : Site). x .meter) site-after) known placed u i;
+    misplaced = λ u. barred-step ls l (recAfter (tagOf l) l s .site .meter) (ap (λ (x : Site). x .meter) site-after) known placed u i;
     history = history-after i;
-    reached = λ u d. reached-step ls l (s .lasts) (held-reached h) (later s l accepted) u d i;
+    notLater = λ u d. reached-step ls l (s .lasts) (held-reached h) (later s l accepted) u d i;
     lastIndex = index-step ls l (s .lastIndex) (held-index h) i;
     readings = readings-step ls l (s .readings) (held-readings h) i;
     lines = lines i;
@@ -176,7 +176,7 @@ module _ (ls : List Line) (l : Line) (s : Rec) (h : HeldRec ls s) (a : refusalAt
     site = site-after;
     before = before-after;
     shaped = shaped-after s l (h .shaped);
-    fits = fits-of (recAfter (tagOf l) l s) kept opened (omega (arith, kept .few, lines-most (recAfter (tagOf l) l s) (kept .readings))) (last-most (tagOf l));
+    fits = fits-of (recAfter (tagOf l) l s) kept (omega (arith, kept .few, lines-most (recAfter (tagOf l) l s) (kept .readings))) (last-most (tagOf l));
     profiled = kept .profiled;
     summed = kept .summed;
     few = kept .few;
@@ -185,7 +185,7 @@ module _ (ls : List Line) (l : Line) (s : Rec) (h : HeldRec ls s) (a : refusalAt
       kept : Kept (recAfter (tagOf l) l s)
       kept = kept-after s l accepted (held-kept h)
 
-      opened : recAfter (tagOf l) l s .state ≡ 1
+      opened : recAfter (tagOf l) l s .state ≡ openState
       opened = unfold recAfter in h .opened
 
       last-most : (t : Tag) → recAfter t l s .last ≤ 8

@@ -14,9 +14,9 @@ use Rattle.calendar.specs.Spans.{among, isKnown, historyYears, axisYears}
 use Rattle.calendar.proofs.Laws.{among-words, history-year, history-bounds, axis-bounds, no-axis}
 use Rattle.meaning.specs.Line.{Line, Tag, S, C, X, D, P, B, R, E, other, is, tagOf, yearOn, monthOn, dayOn, isRising, keyOf, dateKey, mostIndex, mostDaily}
 use Rattle.meaning.specs.Refusals.{notLater, holds, refusal}
-use Rattle.meaning.specs.File.{reachedIn}
-use Rattle.meaning.specs.Record.{Rec, Lasts, lastOf, reachedBy, beforeOf, historyOfSite, historyOfRec, axisOfRec}
-use Rattle.meaning.specs.Calls.{lastsAfter}
+use Rattle.meaning.specs.File.{notLaterIn}
+use Rattle.meaning.specs.Record.{Rec, LastDates, lastOf, notLaterBy, beforeOf, historyOfSite, historyOfRec, axisOfRec}
+use Rattle.meaning.specs.Calls.{lastDatesAfter}
 use Rattle.meaning.proofs.Passed.{passed}
 use Rattle.meaning.proofs.Accepted.{WinterLine, AxisLine, accepted-C, accepted-X, accepted-D, accepted-P, accepted-B, accepted-R, is-tag}
 use Rattle.demands.proofs.Held.Counts.{datesBy, winterDatesBy, yearsBy, Grows, dates-grow, winters-grow, years-grow}
@@ -91,12 +91,12 @@ module _ (s : Rec) (l : Line) (e : refusal (beforeOf s) l ≡ none) where
   key-positive E r h = absurd r
   key-positive other r h = absurd r
 
-  not-reached : (t : Tag) → T (is t (tagOf l)) → T (not (reachedBy (s .lasts) t (keyOf t l)))
+  not-reached : (t : Tag) → T (is t (tagOf l)) → T (not (notLaterBy (s .lasts) t (keyOf t l)))
   unfolding holds beforeOf
   not-reached t h = rw (← is-tag t (tagOf l) h) at (passed (beforeOf s) l e notLater)
 
   pub later : (t : Tag) → T (isRising t) → T (is t (tagOf l)) → lastOf (s .lasts) t < keyOf t l
-  unfolding reachedBy
+  unfolding notLaterBy
   later t r h = later-than (lastOf (s .lasts) t) (keyOf t l) (not-reached t h) (key-positive t r h)
 
   -- so that one date or year more comes at or before it
@@ -132,8 +132,8 @@ reach-by true q n k a e h =
     inside true t g = absurd t
     inside false t g = le→leb k q (omega (arith, leb→le k n t))
 
-last-after : (t u : Tag) (l : Line) (k : Lasts) → T (isRising u) → lastOf (lastsAfter t l k) u ≡ cond (is u t) (keyOf u l) (lastOf k u)
-unfolding lastsAfter isRising
+last-after : (t u : Tag) (l : Line) (k : LastDates) → T (isRising u) → lastOf (lastDatesAfter t l k) u ≡ cond (is u t) (keyOf u l) (lastOf k u)
+unfolding lastDatesAfter isRising
 last-after t S l k r = absurd r
 last-after t C l k r = refl
 last-after t X l k r = refl
@@ -144,20 +144,20 @@ last-after t R l k r = refl
 last-after t E l k r = absurd r
 last-after t other l k r = absurd r
 
-reached-rising : (ls : List Line) (u : Tag) (k : ℕ) → T (isRising u) → reachedIn ls u k ≡ any (λ (m : Line). is u (tagOf m) && leb k (keyOf u m)) ls
-unfolding reachedIn
+reached-rising : (ls : List Line) (u : Tag) (k : ℕ) → T (isRising u) → notLaterIn ls u k ≡ any (λ (m : Line). is u (tagOf m) && leb k (keyOf u m)) ls
+unfolding notLaterIn
 reached-rising ls u k r = rw (is-true (isRising u) r)
 
-module _ (ls : List Line) (l : Line) (k : Lasts) (held : (u : Tag) (d : ℕ) → reachedBy k u d ≡ reachedIn ls u d) (risen : (u : Tag) → T (isRising u) → T (is u (tagOf l)) → lastOf k u < keyOf u l) where
-  rising-step : (u : Tag) (d : ℕ) → T (isRising u) → reachedBy (lastsAfter (tagOf l) l k) u d ≡ reachedIn (ls ++ (l ∷ [])) u d
-  unfolding reachedBy
+module _ (ls : List Line) (l : Line) (k : LastDates) (held : (u : Tag) (d : ℕ) → notLaterBy k u d ≡ notLaterIn ls u d) (risen : (u : Tag) → T (isRising u) → T (is u (tagOf l)) → lastOf k u < keyOf u l) where
+  rising-step : (u : Tag) (d : ℕ) → T (isRising u) → notLaterBy (lastDatesAfter (tagOf l) l k) u d ≡ notLaterIn (ls ++ (l ∷ [])) u d
+  unfolding notLaterBy
   rising-step u d r =
       rw (last-after (tagOf l) u l k r)
       (reach-by (is u (tagOf l)) (keyOf u l) (lastOf k u) d (any (λ (m : Line). is u (tagOf m) && leb d (keyOf u m)) ls) (held u d ∙ reached-rising ls u d r) (risen u r))
       ∙ sym (reached-rising (ls ++ (l ∷ [])) u d r ∙ any-snoc (λ (m : Line). is u (tagOf m) && leb d (keyOf u m)) ls l)
 
-  pub reached-step : (u : Tag) (d : ℕ) → reachedBy (lastsAfter (tagOf l) l k) u d ≡ reachedIn (ls ++ (l ∷ [])) u d
-  unfolding reachedBy reachedIn isRising
+  pub reached-step : (u : Tag) (d : ℕ) → notLaterBy (lastDatesAfter (tagOf l) l k) u d ≡ notLaterIn (ls ++ (l ∷ [])) u d
+  unfolding notLaterBy notLaterIn isRising
   reached-step S d = refl
   reached-step C d = rising-step C d tt
   reached-step X d = rising-step X d tt

@@ -10,7 +10,7 @@ use Rattle.lists.specs.Lists.{sum, tab}
 use Rattle.lists.proofs.Snoc.{one}
 use Rattle.lists.proofs.Tests.{is-false, passed, and-parts}
 use Rattle.calendar.specs.declared.Years.{Years}
-use Rattle.calendar.specs.Dates.{leap}
+use Rattle.calendar.specs.Dates.{leap, allWinterDates, allDates}
 use Rattle.calendar.specs.Spans.{years, among, historyLength, isKnown, historyYears, axisYears}
 use Rattle.calendar.proofs.Tables.{at}
 use Rattle.calendar.proofs.Laws.{known-parts, known-history, no-history, length-5-10}
@@ -18,8 +18,7 @@ use Rattle.meaning.specs.Filing.{Meter}
 use Rattle.meaning.specs.Line.{Tag, S, C, X, D, P, B, R, E, other, rank, is}
 use Rattle.meaning.specs.Refusals.{mostReadings}
 use Rattle.meaning.specs.File.{isIndexMeter}
-use Rattle.meaning.specs.Closing.{allWinterDates, allDates}
-use Rattle.meaning.specs.Record.{Rec, siteOfRec, historyOfSite, historyOfRec, axisOfRec, barredBy}
+use Rattle.meaning.specs.Record.{Rec, siteOfRec, historyOfSite, historyOfRec, axisOfRec, misplacedBy}
 use Rattle.demands.proofs.Held.Counts.{datesBy, winterDatesBy, yearsBy, over, marks, linesBy, Grows, over-grows, over-rises, dates-most, winters-most, years-most}
 use Rattle.demands.proofs.Held.Order.{later-line}
 
@@ -47,8 +46,8 @@ one-tag E h = refl
 one-tag other h = absurd h
 
 -- S is the first line and E the last
-marks-before : (n : ℕ) (m : Meter) (t : Tag) → T (not (barredBy (suc n) m t)) → T (not (is S t)) → marks (suc n) ≤ 1
-unfolding barredBy marks
+marks-before : (n : ℕ) (m : Meter) (t : Tag) → T (not (misplacedBy (suc n) m t)) → T (not (is S t)) → marks (suc n) ≤ 1
+unfolding misplacedBy marks
 marks-before n m t h u = rw (is-false (eqb 8 (suc n)) (go (ltb (rank t) (suc n)) (is S t) (eqb 8 (suc n)) (is C t && isIndexMeter m) h), ne-eqb (suc n) 0 (λ e. omega arith)) (omega arith)
   where
     go : (a b c d : Bool) → T (not ((a || (b || c)) || d)) → T (not c)
@@ -69,7 +68,7 @@ marks-after R h = refl
 marks-after E h = refl
 marks-after other h = absurd h
 
-pub marks-later : (n : ℕ) (m : Meter) (t : Tag) → T (not (barredBy n m t)) → T (not (eqb (rank t) 0)) → T (not (is S t))
+pub marks-later : (n : ℕ) (m : Meter) (t : Tag) → T (not (misplacedBy n m t)) → T (not (eqb (rank t) 0)) → T (not (is S t))
     → marks n + (one (is S t) + one (is E t)) ≤ marks (rank t)
 marks-later zero m t h k u = absurd (later-line zero m t h u)
 marks-later (suc n) m t h k u = rw (is-false (is S t) u) (omega (arith, marks-before n m t h u, marks-after t k))

@@ -9,20 +9,20 @@ use Rattle.lists.proofs.Tests.{or-split, both-not, is-false, is-true}
 use Rattle.calendar.specs.Spans.{axisYears}
 use Rattle.meaning.specs.Line.{Line, S, rank, is, tagOf}
 use Rattle.meaning.specs.Refusals.{Before, misplaced, holds}
-use Rattle.meaning.specs.File.{siteIn, historyIn, axisIn, stops, barredIn, beforeIn, refusalAt}
-use Rattle.meaning.specs.Record.{Rec, isTaken, siteOfRec, historyOfSite, historyOfRec, axisOfRec, barredBy, beforeOf}
+use Rattle.meaning.specs.File.{siteIn, historyIn, axisIn, rulesOut, misplacedIn, beforeIn, refusalAt}
+use Rattle.meaning.specs.Record.{Rec, isTaken, siteOfRec, historyOfSite, historyOfRec, axisOfRec, misplacedBy, beforeOf}
 use Rattle.meaning.specs.Calls.{recAfter}
 use Rattle.meaning.proofs.Passed.{passed}
 use Rattle.demands.proofs.Held.Parts.{HeldRec}
 use Rattle.demands.proofs.Held.Order.{known-tag, later-line, clear, site-step}
 
 -- ---- S is the first line
-pub placed : (ls : List Line) (l : Line) → refusalAt ls l ≡ none → T (not (barredIn ls (tagOf l)))
+pub placed : (ls : List Line) (l : Line) → refusalAt ls l ≡ none → T (not (misplacedIn ls (tagOf l)))
 unfolding refusalAt holds beforeIn
 placed ls l e = passed (beforeIn ls) l e misplaced
 
-alone : {ls : List Line} → Each (λ (m : Line). T (not (stops (tagOf m) S))) ls → ls ≡ []
-unfolding stops
+alone : {ls : List Line} → Each (λ (m : Line). T (not (rulesOut (tagOf m) S))) ls → ls ≡ []
+unfolding rulesOut
 alone each-nil = refl
 alone (each-cons {x = m} h r) = absurd (or-split (ltb 1 (rank (tagOf m))) true h .1)
 
@@ -47,8 +47,8 @@ onward ls l s r e n = record {
   kept = rw (is-false (is S (tagOf l)) n);
 }
   where
-    barred : barredBy (s .last) (s .site .meter) (tagOf l) ≡ barredIn ls (tagOf l)
-    barred = unfold beforeOf beforeIn in ap (λ (b : Before). b .barred (tagOf l)) (r .before)
+    barred : misplacedBy (s .last) (s .site .meter) (tagOf l) ≡ misplacedIn ls (tagOf l)
+    barred = unfold beforeOf beforeIn in ap (λ (b : Before). b .misplaced (tagOf l)) (r .before)
 
 -- ---- the years of the site
 module _ {ls : List Line} {l : Line} {s : Rec} (o : Onward ls l s) where

@@ -7,13 +7,13 @@ use lib.ListN.{length, set, length-set, length-replicate}
 use lib.Seq.{sets, length-sets}
 use Rattle.meaning.specs.Level.{missingEntry}
 use Rattle.meaning.specs.Line.{Line, Tag, X, D, is, numberAt}
-use Rattle.meaning.specs.Blocks.{World, missingPoint, pointsSize, slotsSize, dailySize, readingsSize, curveSize, freshReading, freshWorld}
+use Rattle.meaning.specs.Blocks.{Blocks, missingPoint, pointsSize, slotsSize, dailySize, readingsSize, curveSize, freshReading, freshBlocks}
 use Rattle.meaning.specs.Record.{Rec, axisOfRec}
-use Rattle.meaning.specs.Calls.{positionOn, readingAt, worldAfter}
+use Rattle.meaning.specs.Calls.{positionOn, readingAt, blocksAfter}
 use Rattle.meaning.proofs.Sizes.{Sizes}
 
-pub fresh-sizes : Sizes freshWorld
-unfolding freshWorld
+pub fresh-sizes : Sizes freshBlocks
+unfolding freshBlocks
 fresh-sizes = record {
   near = length-replicate pointsSize missingPoint;
   far = length-replicate pointsSize missingPoint;
@@ -31,8 +31,8 @@ place-size : {A : Type 0} (b : Bool) (xs : List A) (a : ℕ) (v : A) → length 
 place-size true xs a v = length-set xs a v
 place-size false xs a v = refl
 
-pub sizes-after : (t : Tag) (l : Line) (s : Rec) (w : World) → Sizes w → Sizes (worldAfter t l s w)
-unfolding worldAfter
+pub sizes-after : (t : Tag) (l : Line) (s : Rec) (w : Blocks) → Sizes w → Sizes (blocksAfter t l s w)
+unfolding blocksAfter
 sizes-after t l s w z = record {
   near = rw row-size (z .near);
   far = rw row-size (z .far);

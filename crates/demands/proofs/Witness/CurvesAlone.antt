@@ -12,7 +12,7 @@ use Rattle.lists.specs.Lists.{any, firstOf, sum, count, neighbours, Each, each-
 use Rattle.lists.proofs.Laws.{each-map, some-any}
 use Rattle.lists.proofs.Sums.{Held, each-picture, some-picture, each-present}
 use Rattle.lists.proofs.Tests.{is-true}
-use Rattle.calendar.specs.Dates.{monthLengths, longest, daysIn, isDate}
+use Rattle.calendar.specs.Dates.{monthLengths, longest, daysIn, isDate, allWinterDates, allDates}
 use Rattle.calendar.specs.Places.{before, monthOf, dayOf, hasDate, dateOfWinter, hasWinterDate}
 use Rattle.rounding.specs.Points.{rounded, rebuilt, mostPoint, exceeds}
 use Rattle.rounding.proofs.Laws.{half-up-whole, half-up-at-most}
@@ -20,8 +20,8 @@ use Rattle.meaning.specs.Filing.{Filing, Meter, noMeter, curveMeter, indexMeter
 use Rattle.meaning.specs.Line.{mostPower}
 use Rattle.meaning.specs.Validity.{Interval, intervals, overlapsWinter, totalOf, curveValid, indexValid}
 use Rattle.meaning.specs.Cases.{caseM, case2, Mark, curveCase, caseBy, caseOf, markOf, marksOf, isDefault}
-use Rattle.meaning.specs.Points.{asRead, Donor, intervalAt, readBy, readAt, donorPlace, donorOf, curveDonor, curveDonors, ownOf, rebuiltBy, sourceBy, sourceAt, roundedOrigin, fractionOf, donorCas, donorPoints, originExceeds, sourceExceeds, Place, placeOf}
-use Rattle.meaning.specs.Closing.{unended, partial, lacking, zeroTotal, tooHigh, allWinterDates, allDates, isPartial, someWinterInterval, lacksProfile, lacksDaily, lacks, lackOrder, closingRefusal}
+use Rattle.meaning.specs.Points.{asRead, Donor, intervalAt, readBy, readAt, donorPlace, donorOf, curveDonor, curveDonors, ownOf, rebuiltBy, sourceBy, sourceAt, roundedOrigin, fractionOf, donorCas, donorPoints, originExceeds, sourceExceeds, CurvePlace, placeOf}
+use Rattle.meaning.specs.Closing.{noEnd, partial, noData, zeroTotal, tooHigh, isPartial, someWinterInterval, lacksProfile, lacksDaily, closeHolds, closeOrder, closingRefusal}
 use Rattle.meaning.proofs.Accepted.{PointFits}
 use Rattle.demands.proofs.Bound.Sane.{Sane}
 use Rattle.demands.proofs.Bound.Years.{InHistory, each-year, some-year}
@@ -44,12 +44,12 @@ unfolding isPartial
 none-partial n full e = rw e
 
 -- ---- 14 and 15: E is taken, and there is no P or D line
-not-unended : (F : Filing) → T (F .ended) → lacks unended F ≡ false
-unfolding lacks
+not-unended : (F : Filing) → T (F .ended) → closeHolds noEnd F ≡ false
+unfolding closeHolds
 not-unended F e = ap not (is-true (F .ended) e)
 
-pub no-dates : (F : Filing) → ((y : ℕ) → F .profileDates y ≡ 0) → ((y : ℕ) → F .dailyDates y ≡ 0) → lacks partial F ≡ false
-unfolding lacks
+pub no-dates : (F : Filing) → ((y : ℕ) → F .profileDates y ≡ 0) → ((y : ℕ) → F .dailyDates y ≡ 0) → closeHolds partial F ≡ false
+unfolding closeHolds
 no-dates F p d =
     rw (never-passes (λ y. isPartial (F .profileDates y) (allWinterDates y)) (λ y. none-partial (F .profileDates y) (allWinterDates y) (p y)) (historyList F))
     (never-passes (λ y. isPartial (F .dailyDates y) (allDates y)) (λ y. none-partial (F .dailyDates y) (allDates y) (d y)) (yearsIn (axisOf F)))
@@ -88,7 +88,7 @@ rebuilt-low ca (d ∷ ds) r =
     rw (none-passes (λ (e : Donor). originExceeds (e .origin)) (each-map (λ e m. m .low) r))
     (le-ltb mostPoint _ (half-up-at-most mostPoint (ca * donorPoints (d ∷ ds)) (donorCas (d ∷ ds)) (donors-positive r) (donors-most r)))
 
--- ---- measured points are not looked at
+-- ---- measured points are not checked
 read-low : (o : Option ℕ) → sourceExceeds (ownOf (readBy o)) ≡ false
 unfolding readBy ownOf sourceExceeds originExceeds
 read-low none = refl
@@ -129,7 +129,7 @@ module _ (F : Filing) (s : Sane F) (curves : F .site .meter ≡ curveMeter) (unr
           absurd (omega arith)
       go false k = refl
 
-  -- 16 and 17 look at intervals of valid index years
+  -- 16 and 17 check intervals of valid index years
   no-winter-interval : (p : Interval → Bool) → someWinterInterval F p ≡ false
   unfolding someWinterInterval
   no-winter-interval p =
@@ -146,8 +146,8 @@ module _ (F : Filing) (s : Sane F) (curves : F .site .meter ≡ curveMeter) (unr
     case-alone y t = curve-case (F .site .meter) (marksOf F) (markOf F y) curves (no-index y t) some-curve
 
     -- 16
-    not-lacking : lacks lacking F ≡ false
-    unfolding lacks lacksProfile
+    not-lacking : closeHolds noData F ≡ false
+    unfolding closeHolds lacksProfile
     not-lacking = rw (none-passes (lacksProfile F) (each-year F no-lack)) (no-winter-interval (lacksDaily F))
       where
         no-lack : (y : ℕ) → InHistory F y → lacksProfile F y ≡ false
@@ -158,8 +158,8 @@ module _ (F : Filing) (s : Sane F) (curves : F .site .meter ≡ curveMeter) (unr
             go false = refl
 
     -- 17
-    not-zero : lacks zeroTotal F ≡ false
-    unfolding lacks
+    not-zero : closeHolds zeroTotal F ≡ false
+    unfolding closeHolds
     not-zero = no-winter-interval (λ v. eqb (totalOf F v) 0)
 
     -- 18
@@ -182,10 +182,10 @@ module _ (F : Filing) (s : Sane F) (curves : F .site .meter ≡ curveMeter) (unr
           go true = read-low (F .point y w h)
           go false = rebuilt-low (F .ca y) (curveDonors F w h) (curve-modest y w h t)
 
-      not-high : lacks tooHigh F ≡ false
-      unfolding lacks placeOf
-      not-high = none-passes (λ (q : Place). sourceExceeds (q .source)) (each-place F (λ y w h t d. source-low y w h t))
+      not-high : closeHolds tooHigh F ≡ false
+      unfolding closeHolds placeOf
+      not-high = none-passes (λ (q : CurvePlace). sourceExceeds (q .source)) (each-place F (λ y w h t d. source-low y w h t))
 
-      pub curves-alone : T (F .ended) → lacks partial F ≡ false → closingRefusal F ≡ none
-      unfolding closingRefusal lackOrder firstOf
+      pub curves-alone : T (F .ended) → closeHolds partial F ≡ false → closingRefusal F ≡ none
+      unfolding closingRefusal closeOrder firstOf
       curves-alone e p = rw (not-unended F e, p, not-lacking, not-zero, not-high)

@@ -13,15 +13,15 @@ use Rattle.meaning.specs.Line.{Line, C, is, tagOf, yearOn, pointOf, winterOn}
 use Rattle.meaning.specs.Refusals.{Reason}
 use Rattle.meaning.specs.File.{beforeIn, refusalAt, pointOn, pointIn, filingIn}
 use Rattle.meaning.specs.Level.{reportOf}
-use Rattle.meaning.specs.Closing.{Lack, closingRefusal}
-use Rattle.meaning.specs.Blocks.{World, sizesFit, freshWorld}
+use Rattle.meaning.specs.Closing.{CloseReason, closingRefusal}
+use Rattle.meaning.specs.Blocks.{Blocks, sizesFit, freshBlocks}
 use Rattle.meaning.specs.Record.{Rec, freshRec}
-use Rattle.meaning.specs.Calls.{took, reports, Out, out, leaves, openingOf, recAfter, worldAfter, judged, lineOf, closed, closeOf}
+use Rattle.meaning.specs.Calls.{accepted, reported, Out, out, leaves, openingOf, recAfter, blocksAfter, lineBy, lineOf, closeBy, closeOf}
 use Rattle.meaning.specs.Sheet.{Outcome, level, closingBy, closingOf, outcomeBy, outcomeFrom, outcomeOf, sheetOf}
 use Rattle.demands.specs.CallLists.{Call, opening, line, close, called, fileAfter, Answered, answersFrom, answersOf}
 use Rattle.meaning.proofs.Accepted.{PointFits, point-in, is-tag}
 use Rattle.demands.proofs.Held.Rec.{rec-step}
-use Rattle.demands.proofs.Held.World.{world-step, world-is}
+use Rattle.demands.proofs.Held.Blocks.{blocks-step, blocks-is}
 use Rattle.demands.proofs.Demand2.{Held, held-fresh, line-is, close-is}
 
 -- after the accepted lines es, each of the lines ls is accepted
@@ -41,49 +41,49 @@ outcome-taken (after {es = es} {ls = ls} {l = l} e r) = rw (e, ← joined es ls 
 pub taken-level : (ls : List Line) → Taken [] ls → closingRefusal (filingIn ls) ≡ none → sheetOf ls ≡ level (reportOf (filingIn ls))
 unfolding sheetOf outcomeOf closingOf closingBy
 taken-level ls t e =
-    ap (λ (o : Outcome). o .sheet) (outcome-taken t) ∙ ap (λ (o : Option Lack). (closingBy o (filingIn ls) (length ls)) .sheet) e
+    ap (λ (o : Outcome). o .sheet) (outcome-taken t) ∙ ap (λ (o : Option CloseReason). (closingBy o (filingIn ls) (length ls)) .sheet) e
 
 -- ---- the answer of a close that follows them
 abbrev pub Reported : List Line → Answered → Type 0
-Reported f a = (a .file ≡ f) × (a .answer ≡ reports (reportOf (filingIn f)))
+Reported f a = (a .file ≡ f) × (a .answer ≡ reported (reportOf (filingIn f)))
 
-close-answer : (f : List Line) (s : Rec) (w : World) → Held f s w → closingRefusal (filingIn f) ≡ none → (closeOf s w) .answer ≡ reports (reportOf (filingIn f))
-unfolding closed
+close-answer : (f : List Line) (s : Rec) (w : Blocks) → Held f s w → closingRefusal (filingIn f) ≡ none → (closeOf s w) .answer ≡ reported (reportOf (filingIn f))
+unfolding closeBy
 close-answer f s w h e =
-    ap (λ (o : Out). o .answer) (close-is f s w h ∙ ap (λ (o : Option Lack). closed o s w) e)
-    ∙ ap (λ (F : Filing). reports (reportOf F)) (world-is (h .rec) (h .world))
+    ap (λ (o : Out). o .answer) (close-is f s w h ∙ ap (λ (o : Option CloseReason). closeBy o s w) e)
+    ∙ ap (λ (F : Filing). reported (reportOf F)) (blocks-is (h .rec) (h .blocks))
 
-line-taken : (f : List Line) (s : Rec) (w : World) (l : Line) → Held f s w → refusalAt f l ≡ none → lineOf s l w ≡ judged none s l w
-line-taken f s w l h e = line-is f s w l h ∙ ap (λ (o : Option Reason). judged o s l w) e
+line-taken : (f : List Line) (s : Rec) (w : Blocks) (l : Line) → Held f s w → refusalAt f l ≡ none → lineOf s l w ≡ lineBy none s l w
+line-taken f s w l h e = line-is f s w l h ∙ ap (λ (o : Option Reason). lineBy o s l w) e
 
-line-held : (f : List Line) (s : Rec) (w : World) (l : Line) → Held f s w → refusalAt f l ≡ none
-    → Held (f ++ (l ∷ [])) (recAfter (tagOf l) l s) (worldAfter (tagOf l) l s w)
-line-held f s w l h e = record { rec = rec-step f l s (h .rec) e; world = world-step f l s w (h .rec) (h .world) e }
+line-held : (f : List Line) (s : Rec) (w : Blocks) (l : Line) → Held f s w → refusalAt f l ≡ none
+    → Held (f ++ (l ∷ [])) (recAfter (tagOf l) l s) (blocksAfter (tagOf l) l s w)
+line-held f s w l h e = record { rec = rec-step f l s (h .rec) e; blocks = blocks-step f l s w (h .rec) (h .blocks) e }
 
 -- the calls after a line that is taken
-past-line : {P : Answered → Type 0} (f : List Line) (s : Rec) (w : World) (l : Line) (ks : List Call) → lineOf s l w ≡ judged none s l w
-    → Some P (answersFrom (recAfter (tagOf l) l s) (worldAfter (tagOf l) l s w) (f ++ (l ∷ [])) ks)
+past-line : {P : Answered → Type 0} (f : List Line) (s : Rec) (w : Blocks) (l : Line) (ks : List Call) → lineOf s l w ≡ lineBy none s l w
+    → Some P (answersFrom (recAfter (tagOf l) l s) (blocksAfter (tagOf l) l s w) (f ++ (l ∷ [])) ks)
     → Some P (answersFrom s w f (line l ∷ ks))
-unfolding answersFrom called judged fileAfter
+unfolding answersFrom called lineBy fileAfter
 past-line {P} f s w l ks e r =
-    subst (λ (o : Out). Some P (record { file = f; answer = o .answer } ∷ answersFrom (o .after) (o .world) (fileAfter (line l) (o .answer) f) ks)) (sym e) (there r)
+    subst (λ (o : Out). Some P (record { file = f; answer = o .answer } ∷ answersFrom (o .after) (o .blocks) (fileAfter (line l) (o .answer) f) ks)) (sym e) (there r)
 
-answers-taken : {es ls : List Line} → Taken es ls → (s : Rec) (w : World) → Held es s w → closingRefusal (filingIn (es ++ ls)) ≡ none
+answers-taken : {es ls : List Line} → Taken es ls → (s : Rec) (w : Blocks) → Held es s w → closingRefusal (filingIn (es ++ ls)) ≡ none
     → Some (Reported (es ++ ls)) (answersFrom s w es (map line ls ++ (close ∷ [])))
 unfolding answersFrom called
 answers-taken (ended {es = es}) s w h k = rw (append-nil es) (here (refl, close-answer es s w h (rw (append-nil es) at k)))
 answers-taken (after {es = es} {ls = ls} {l = l} e r) s w h k =
     past-line es s w l (map line ls ++ (close ∷ [])) (line-taken es s w l h e)
-    (rw (joined es ls l) at (answers-taken r (recAfter (tagOf l) l s) (worldAfter (tagOf l) l s w) (line-held es s w l h e) (rw (joined es ls l) k)))
+    (rw (joined es ls l) at (answers-taken r (recAfter (tagOf l) l s) (blocksAfter (tagOf l) l s w) (line-held es s w l h e) (rw (joined es ls l) k)))
 
 -- on whatever record and blocks of the right sizes
-pub taken-answers : (ls : List Line) → Taken [] ls → closingRefusal (filingIn ls) ≡ none → (s : Rec) (w : World) → T (sizesFit w)
+pub taken-answers : (ls : List Line) → Taken [] ls → closingRefusal (filingIn ls) ≡ none → (s : Rec) (w : Blocks) → T (sizesFit w)
     → Some (Reported ls) (answersOf s w (map line ls ++ (close ∷ [])))
 unfolding answersOf answersFrom called openingOf fileAfter
 taken-answers ls t e s w fit =
-    subst (λ (o : Out). Some (Reported ls) (record { file = []; answer = o .answer } ∷ answersFrom (o .after) (o .world) (fileAfter opening (o .answer) []) (map line ls ++ (close ∷ []))))
-    (sym (ap (λ (b : Bool). cond b (out took freshRec freshWorld) (leaves 1 s w)) (is-true (sizesFit w) fit)))
-    (there (answers-taken t freshRec freshWorld held-fresh e))
+    subst (λ (o : Out). Some (Reported ls) (record { file = []; answer = o .answer } ∷ answersFrom (o .after) (o .blocks) (fileAfter opening (o .answer) []) (map line ls ++ (close ∷ []))))
+    (sym (ap (λ (b : Bool). cond b (out accepted freshRec freshBlocks) (leaves 1 s w)) (is-true (sizesFit w) fit)))
+    (there (answers-taken t freshRec freshBlocks held-fresh e))
 
 -- ---- a point of theirs is at most 100,000,000 W
 unfoldable Fits : Option (Option ℕ) → Type 0

@@ -7,15 +7,15 @@ use Prim.Native.Nat.{ℕ}
 use lib.Dec.{T, eqb}
 use Rattle.lists.specs.Lists.{any, Some}
 use Rattle.lists.proofs.Reflect.{of-eq, of-any}
-use Rattle.lists.proofs.Words.{map-some, some-range}
+use Rattle.lists.proofs.RestatedLists.{map-some, some-range}
 use Rattle.lists.proofs.Tests.{both-not}
 use Rattle.calendar.specs.declared.Years.{Years}
 use Rattle.calendar.specs.Spans.{among, historyYears, axisYears}
 use Rattle.calendar.proofs.Laws.Positions.{among-words}
 use Rattle.meaning.specs.Filing.{Filing, Meter, noMeter, curveMeter, indexMeter, historyOf, axisOf, yearsIn, historyList}
 use Rattle.meaning.specs.Cases.{Case, caseM, case1, case2, case3, case4, caseP, case5, case6, Mark, curveCase, indexCase, caseBy, markOf, marksOf, caseOf}
-use Rattle.meaning.specs.Words.Dates.{AxisYear}
-use Rattle.meaning.specs.Words.Years.{CurveValid, IndexValid, SomeYear, CurveFile, CaseWords}
+use Rattle.meaning.specs.Restated.Dates.{AxisYear}
+use Rattle.meaning.specs.Restated.Years.{CurveValid, IndexValid, SomeYear, CurveFile, CaseWords}
 use Rattle.meaning.proofs.Pins.Dates.{date-words}
 use Rattle.meaning.proofs.Pins.Years.{valid-words}
 

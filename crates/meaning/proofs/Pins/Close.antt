@@ -1,4 +1,4 @@
--- Each refusal of a close is given exactly where its words hold and none that is looked at before it does.
+-- A close is refused for a reason exactly where its words hold and those of no reason checked before it do.
 use mathlib.Core.Path.{_≡_, refl}
 use mathlib.Core.Logic.{_↔_, _⊎_, inl, inr, Iff·trans}
 use mathlib.Core.Bool.{Bool, true, false, not, _&&_, _||_, cond}
@@ -9,8 +9,8 @@ use lib.Dec.{T, ltb, eqb}
 use Rattle.lists.specs.Lists.{any, all, keep, flat, tab, range, sum, Each, each-nil, each-cons, Some}
 use Rattle.lists.proofs.Laws.{some-map}
 use Rattle.lists.proofs.Reflect.{of-eq, of-lt, of-or, of-and, of-not, of-any, of-all}
-use Rattle.lists.proofs.Words.{some-keep, some-range, map-some, some-flat, some-tab, sum-zero, each-tab, Front, front-nil, front-cons, of-order, of-order-none}
-use Rattle.calendar.specs.Dates.{leap}
+use Rattle.lists.proofs.RestatedLists.{some-keep, some-range, map-some, some-flat, some-tab, sum-zero, each-tab, Front, front-nil, front-cons, of-order, of-order-none}
+use Rattle.calendar.specs.Dates.{leap, allWinterDates, allDates}
 use Rattle.calendar.specs.Places.{hasDate}
 use Rattle.calendar.specs.Spans.{placeAt}
 use Rattle.calendar.proofs.Laws.Days.{leap-words}
@@ -19,11 +19,11 @@ use Rattle.rounding.specs.Points.{mostPoint, rounded, profiled, rebuilt, byDefa
 use Rattle.meaning.specs.Filing.{Filing, Reading, axisOf, yearsIn, historyList, yearOf, dailyAt}
 use Rattle.meaning.specs.Validity.{Interval, intervals, daysOf, totalBetween, totalOf, overlapsWinter, touches, indexValid}
 use Rattle.meaning.specs.Cases.{Case, caseM, case1, case2, case3, case4, caseP, case5, case6, caseOf, isDefault}
-use Rattle.meaning.specs.Points.{Origin, asRead, byProfile, fractionOf, Donor, Source, missing, own, fromDonors, fromDefault, roundedOrigin, donorCas, donorPoints, originExceeds, sourceExceeds, Place, placeOf, yearPlaces, allPlaces}
-use Rattle.meaning.specs.Closing.{Lack, unended, partial, lacking, zeroTotal, tooHigh, lackNumber, allWinterDates, allDates, isPartial, someWinterInterval, lacksProfile, lacksDaily, lacks, lackOrder, closingRefusal}
-use Rattle.meaning.specs.Words.Dates.{Leap}
-use Rattle.meaning.specs.Words.Years.{Between, WinterDay, SomeYear}
-use Rattle.meaning.specs.Words.Close.{SomeAxisYear, Partial, SomeInterval, Touches, HighOrigin, High, CloseWords, earlierLack, ClosingWords}
+use Rattle.meaning.specs.Points.{Origin, asRead, byProfile, fractionOf, Donor, Source, missing, own, fromDonors, fromDefault, roundedOrigin, donorCas, donorPoints, originExceeds, sourceExceeds, CurvePlace, placeOf, yearPlaces, allPlaces}
+use Rattle.meaning.specs.Closing.{CloseReason, noEnd, partial, noData, zeroTotal, tooHigh, closeNumber, isPartial, someWinterInterval, lacksProfile, lacksDaily, closeHolds, closeOrder, closingRefusal}
+use Rattle.meaning.specs.Restated.Dates.{Leap}
+use Rattle.meaning.specs.Restated.Years.{Between, WinterDay, SomeYear}
+use Rattle.meaning.specs.Restated.Close.{SomeAxisYear, Partial, SomeInterval, Touches, HighOrigin, High, CloseWords, earlierLack, ClosingWords}
 use Rattle.meaning.proofs.Passed.{each-head, each-tail}
 use Rattle.meaning.proofs.Pins.Dates.{date-words}
 use Rattle.meaning.proofs.Pins.Years.{valid-words, some-intervals, of-overlap}
@@ -108,7 +108,7 @@ of-high (fromDonors ca ds) =
 of-high (fromDefault ps th p ca n cas) = of-lt mostPoint (rounded (byDefault ps th p ca n cas))
 
 -- a place of the curve is that of a history year, a peak day of it and a half-hour
-pub some-places : {Q : Place → Type 0} (F : Filing) → Some Q (allPlaces F) ↔ SomeYear F (λ y. Some (λ w. (h : ℕ) × (h < 20) × Q (placeOf F y w h)) (peakDays y))
+pub some-places : {Q : CurvePlace → Type 0} (F : Filing) → Some Q (allPlaces F) ↔ SomeYear F (λ y. Some (λ w. (h : ℕ) × (h < 20) × Q (placeOf F y w h)) (peakDays y))
 unfolding allPlaces yearPlaces
 some-places {Q} F = Iff·trans (some-flat {P = Q} (map (yearPlaces F) (historyList F))) (Iff·trans (map-some (yearPlaces F) (historyList F)) (Iff·trans (some-history F) (
   λ s. (s .0, s .1, days (s .0) .0 (s .2)),
@@ -125,14 +125,14 @@ some-places {Q} F = Iff·trans (some-flat {P = Q} (map (yearPlaces F) (historyLi
     ))
 
 -- ---- each condition
-pub of-lacks : (F : Filing) (k : Lack) → T (lacks k F) ↔ CloseWords k F
-unfolding lacks CloseWords allWinterDates allDates lacksProfile lacksDaily placeOf
-of-lacks F unended = of-not (F .ended) (λ t. t, λ t. t)
+pub of-lacks : (F : Filing) (k : CloseReason) → T (closeHolds k F) ↔ CloseWords k F
+unfolding closeHolds CloseWords allWinterDates allDates lacksProfile lacksDaily placeOf
+of-lacks F noEnd = of-not (F .ended) (λ t. t, λ t. t)
 of-lacks F partial =
     of-or (any (λ y. isPartial (F .profileDates y) (allWinterDates y)) (historyList F)) (any (λ z. isPartial (F .dailyDates z) (allDates z)) (yearsIn (axisOf F)))
     (any-history F (λ y. isPartial (F .profileDates y) (allWinterDates y)) (λ y. of-partial 152 151 y (F .profileDates y)))
     (any-axis F (λ z. isPartial (F .dailyDates z) (allDates z)) (λ z. of-partial 366 365 z (F .dailyDates z)))
-of-lacks F lacking =
+of-lacks F noData =
     of-or (any (lacksProfile F) (historyList F)) (someWinterInterval F (lacksDaily F))
     (any-history F (lacksProfile F) (λ y. of-and (indexValid F y || isDefault (caseOf F y)) (eqb (F .profileDates y) 0)
     (of-or (indexValid F y) (isDefault (caseOf F y)) (valid-words .index F y) (of-default (caseOf F y))) (of-eq (F .profileDates y) 0)))
@@ -140,43 +140,43 @@ of-lacks F lacking =
     (λ z. of-and (eqb (F .dailyDates z) 0) (touches F z (record { from = a; to = b })) (of-eq (F .dailyDates z) 0) (of-touches F z a b))))
 of-lacks F zeroTotal = of-interval F (λ v. eqb (totalOf F v) 0) (of-zero F)
 of-lacks F tooHigh =
-    Iff·trans (of-any (λ (q : Place). sourceExceeds (q .source)) (λ q. of-high (q .source)) (allPlaces F)) (some-places F)
+    Iff·trans (of-any (λ (q : CurvePlace). sourceExceeds (q .source)) (λ q. of-high (q .source)) (allPlaces F)) (some-places F)
 
 -- ---- the first that holds
-front : (k : Lack) → Front k (earlierLack k) lackOrder
-unfolding earlierLack lackOrder
-front unended = front-nil
+front : (k : CloseReason) → Front k (earlierLack k) closeOrder
+unfolding earlierLack closeOrder
+front noEnd = front-nil
 front partial = front-cons front-nil
-front lacking = front-cons (front-cons front-nil)
+front noData = front-cons (front-cons front-nil)
 front zeroTotal = front-cons (front-cons (front-cons front-nil))
 front tooHigh = front-cons (front-cons (front-cons (front-cons front-nil)))
 
-lower-test : (k : Lack) → T (all (λ j. ltb (lackNumber j) (lackNumber k)) (earlierLack k))
-unfolding earlierLack lackNumber all
-lower-test unended = tt
+lower-test : (k : CloseReason) → T (all (λ j. ltb (closeNumber j) (closeNumber k)) (earlierLack k))
+unfolding earlierLack closeNumber all
+lower-test noEnd = tt
 lower-test partial = tt
-lower-test lacking = tt
+lower-test noData = tt
 lower-test zeroTotal = tt
 lower-test tooHigh = tt
 
-lower : (k : Lack) → Each (λ j. lackNumber j < lackNumber k) (earlierLack k)
-lower k = of-all (λ j. ltb (lackNumber j) (lackNumber k)) (λ j. of-lt (lackNumber j) (lackNumber k)) (earlierLack k) .0 (lower-test k)
+lower : (k : CloseReason) → Each (λ j. closeNumber j < closeNumber k) (earlierLack k)
+lower k = of-all (λ j. ltb (closeNumber j) (closeNumber k)) (λ j. of-lt (closeNumber j) (closeNumber k)) (earlierLack k) .0 (lower-test k)
 
-each-lack : {Q : Lack → Type 0} → Each Q lackOrder → (k : Lack) → Q k
-unfolding lackOrder
-each-lack e unended = each-head e
+each-lack : {Q : CloseReason → Type 0} → Each Q closeOrder → (k : CloseReason) → Q k
+unfolding closeOrder
+each-lack e noEnd = each-head e
 each-lack e partial = each-head (each-tail e)
-each-lack e lacking = each-head (each-tail (each-tail e))
+each-lack e noData = each-head (each-tail (each-tail e))
 each-lack e zeroTotal = each-head (each-tail (each-tail (each-tail e)))
 each-lack e tooHigh = each-head (each-tail (each-tail (each-tail (each-tail e))))
 
-every-lack : {Q : Lack → Type 0} → ((k : Lack) → Q k) → (ks : List Lack) → Each Q ks
+every-lack : {Q : CloseReason → Type 0} → ((k : CloseReason) → Q k) → (ks : List CloseReason) → Each Q ks
 every-lack f [] = each-nil
 every-lack f (k ∷ ks) = each-cons (f k) (every-lack f ks)
 
 pub closing-words : ClosingWords
 unfolding closingRefusal
 closing-words = record {
-  refused = λ F k. of-order (λ j. lacks j F) (of-lacks F) lackNumber (front k) (lower k);
-  reported = λ F. Iff·trans (of-order-none (λ j. lacks j F) (of-lacks F) lackOrder) (λ e k. each-lack e k, λ f. every-lack f lackOrder);
+  refused = λ F k. of-order (λ j. closeHolds j F) (of-lacks F) closeNumber (front k) (lower k);
+  reported = λ F. Iff·trans (of-order-none (λ j. closeHolds j F) (of-lacks F) closeOrder) (λ e k. each-lack e k, λ f. every-lack f closeOrder);
 }

@@ -17,14 +17,14 @@ use Rattle.calendar.proofs.Tables.{at, given}
 use Rattle.calendar.proofs.Laws.Months.{to-december}
 use Rattle.calendar.proofs.Laws.Days.{leap-words, days-in-longest}
 use Rattle.calendar.proofs.Laws.Positions.{among-words, known-history, no-history, known-parts, history-bounds, known-axis, no-axis}
-use Rattle.lists.proofs.Words.{none-some, some-cons}
-use Rattle.meaning.specs.Words.Dates.{OneOf, Winter, Leap, Date, HistoryYear, AxisYear, DateWords}
+use Rattle.lists.proofs.RestatedLists.{none-some, some-cons}
+use Rattle.meaning.specs.Restated.Dates.{OneOf, Winter, Leap, Date, HistoryYear, AxisYear, DateWords}
 
 -- a number is one of some where one of their tests passes
 of-one : (ns : List ℕ) (n : ℕ) → T (any (eqb n) ns) ↔ OneOf ns n
 of-one ns n = of-any (eqb n) (λ k. of-eq n k) ns
 
--- what each of some numbers has, a number that is one of them has
+-- what holds of each of some numbers holds of one that is among them
 each-one : (P : ℕ → Type 0) {ns : List ℕ} {n : ℕ} → Each P ns → OneOf ns n → P n
 each-one P e s = let q = paired s e in rw (q .1) (q .2)
 

@@ -5,7 +5,7 @@ use mathlib.Core.List.{List, [], _∷_, _++_}
 use Prim.Native.Nat.{ℕ}
 use Rattle.lists.specs.Lists.{Each, each-nil, each-cons}
 use Rattle.meaning.specs.Input.{ahead, linesOf}
-use Rattle.meaning.specs.Words.Input.{InputWords}
+use Rattle.meaning.specs.Restated.Input.{InputWords}
 use Rattle.meaning.proofs.Lines.{lines-next}
 
 ten : (bs : List ℕ) → linesOf (10 ∷ bs) ≡ [] ∷ linesOf bs

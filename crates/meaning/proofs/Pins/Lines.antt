@@ -1,4 +1,4 @@
--- Each refusal of a line is given exactly where its words hold and none that is looked at before it does.
+-- A line is refused for a reason exactly where its words hold and those of no reason checked before it do.
 use mathlib.Core.Path.{_≡_, refl, ap}
 use mathlib.Core.Logic.{_↔_, _⊎_, inl, inr, Iff·trans}
 use mathlib.Core.Bool.{Bool, true, false, not, _&&_, _||_, cond, Bool·beq}
@@ -11,26 +11,26 @@ use lib.ListN.{length, replicate}
 use borrow.Author.Tests.{eqb-true, leb-true, leb-false}
 use Rattle.text.proofs.NumberLaws.{of-number, of-dash}
 use Rattle.lists.specs.Lists.{any, all, count, seek, latest, orElse, Each, each-nil, each-cons, Some}
-use Rattle.lists.specs.Words.{Tally, First, Last}
+use Rattle.lists.specs.Restated.{CountIs, First, Last}
 use Rattle.lists.proofs.Reflect.{of-eq, of-le, of-lt, of-or, of-and, of-not, of-any, of-all}
-use Rattle.lists.proofs.Words.{none-some, first-some, of-seek, of-latest, of-count, Front, front-nil, front-cons, of-order, of-order-none}
+use Rattle.lists.proofs.RestatedLists.{none-some, first-some, of-seek, of-latest, of-count, Front, front-nil, front-cons, of-order, of-order-none}
 use Rattle.lists.proofs.Tests.{is-true}
 use Rattle.calendar.specs.Dates.{isDate, isWinter, isDay}
 use Rattle.calendar.specs.Places.{datePlace}
 use Rattle.calendar.specs.Spans.{years, among, axisYears, positionOf}
-use Rattle.calendar.specs.Words.{EarlierDate}
+use Rattle.calendar.specs.Restated.{EarlierDate}
 use Rattle.calendar.proofs.Tables.{beq→eq}
 use Rattle.calendar.proofs.Laws.Days.{date-day}
 use Rattle.calendar.proofs.Laws.Positions.{earlier-position}
-use Rattle.text.specs.Fields.{upTo, past, tabs, restAt, fieldAt, reads, edition as editionText, isStrange}
+use Rattle.text.specs.Fields.{upTo, past, tabs, restAt, fieldAt, reads, edition as editionText, isInvalid}
 use Rattle.text.specs.Numbers.{isNumber, valueOf, isDash}
 use Rattle.text.proofs.Laws.{of-reads}
-use Rattle.meaning.specs.Filing.{noMeter, curveMeter, indexMeter, Site, noSite, real, corrected, estimated, strange}
+use Rattle.meaning.specs.Filing.{noMeter, curveMeter, indexMeter, Site, noSite, real, corrected, estimated, noKind}
 use Rattle.meaning.specs.Line.{Line, Tag, S, C, X, D, P, B, R, E, other, rank, is, tagOf, Form, number, numberOrDash, mostPower, mostIndex, mostDaily, mostProfile, formsOf, size, meterOfLetter, meterOf, isMeter, kindOfLetter, kindOf, isKind, inForm, inRange, someField, numberAt, yearOn, monthOn, dayOn, siteOn, hasDateOn, isWinterTag, hasYearOn, dateKey, keyOf, isRising}
 use Rattle.meaning.specs.Refusals.{Reason, illegible, unknown, misplaced, malformed, outside, noDate, notLater, tooSoon, falling, tooMany, miscounted, numberOf, isTooSoon, isIllegible, isUnknown, isMalformed, isOutside, hasNoDate, holds, order, refusal}
-use Rattle.meaning.specs.File.{siteIn, historyIn, stops, isIndexMeter, barredIn, reachedIn, lastIndexIn, beforeIn, refusalAt}
-use Rattle.meaning.specs.Words.Dates.{Winter, Date}
-use Rattle.meaning.specs.Words.Lines.{Strange, HasFields, after, IndexFile, Stopped, Misplaced, Number, Malformed, Off, OffHistory, OffAxis, Outside, Dated, OnlyWinter, Rising, Words, earlier, RefusalWords}
+use Rattle.meaning.specs.File.{siteIn, historyIn, rulesOut, isIndexMeter, misplacedIn, notLaterIn, lastIndexIn, beforeIn, refusalAt}
+use Rattle.meaning.specs.Restated.Dates.{Winter, Date}
+use Rattle.meaning.specs.Restated.Lines.{Invalid, HasFields, after, IndexFile, RulesOut, Misplaced, Number, Malformed, Off, OffHistory, OffAxis, Outside, Dated, OnlyWinter, Rising, Words, earlier, RefusalWords}
 use Rattle.meaning.proofs.Passed.{each-head, each-tail, each-reason}
 use Rattle.meaning.proofs.Pins.Dates.{date-words}
 use Rattle.meaning.proofs.Pins.Tables.{of-is}
@@ -54,15 +54,15 @@ alone {A} {a} f = record { iff = go a (f .iff) }
     go false h = h
 
 -- ---- 2
-of-strange : (b : ℕ) → T (isStrange b) ↔ Strange b
-unfolding isStrange
+of-strange : (b : ℕ) → T (isInvalid b) ↔ Invalid b
+unfolding isInvalid
 of-strange b = of-and (not (eqb b 9)) (ltb b 32 || ltb 126 b) (of-not (eqb b 9) (of-eq b 9)) (of-or (ltb b 32) (ltb 126 b) (of-lt b 32) (of-lt 126 b))
 
-of-illegible : (l : Line) → T (isIllegible l) ↔ ((length l ≡ 0) ⊎ (320 < length l) ⊎ Some Strange l)
+of-illegible : (l : Line) → T (isIllegible l) ↔ ((length l ≡ 0) ⊎ (320 < length l) ⊎ Some Invalid l)
 unfolding isIllegible
 of-illegible l =
-    of-or (eqb (length l) 0) (ltb 320 (length l) || any isStrange l) (of-eq (length l) 0)
-    (of-or (ltb 320 (length l)) (any isStrange l) (of-lt 320 (length l)) (of-any isStrange of-strange l))
+    of-or (eqb (length l) 0) (ltb 320 (length l) || any isInvalid l) (of-eq (length l) 0)
+    (of-or (ltb 320 (length l)) (any isInvalid l) (of-lt 320 (length l)) (of-any isInvalid of-strange l))
 
 -- ---- 3
 of-fields : (t : Tag) (k : ℕ) → T (eqb (k + 1) (size t)) ↔ HasFields t (k + 1)
@@ -110,8 +110,8 @@ of-later t k = rw same (of-any (λ u. is u k) (λ u. of-is u k) (after t))
     same : ltb (rank t) (rank k) ≡ any (λ u. is u k) (after t)
     same = beq→eq _ _ (each-tag (of-all (rank-test t) (λ j. (λ u. u, λ u. u)) tags .0 (each-tag (of-all (λ j. all (rank-test j) tags) (λ j. (λ u. u, λ u. u)) tags .0 rank-tests) t)) k)
 
-of-stops : (k t : Tag) → T (stops k t) ↔ Stopped k t
-unfolding stops
+of-stops : (k t : Tag) → T (rulesOut k t) ↔ RulesOut k t
+unfolding rulesOut
 of-stops k t = of-or (ltb (rank t) (rank k)) (is S t || is E k) (of-later t k) (of-or (is S t) (is E k) (of-is S t) (of-is E k))
 
 -- ---- letters
@@ -155,7 +155,7 @@ of-kind [] = (λ t. absurd t, λ s. elim s [ inl e ↦ absurd (no-letter 82 e) |
 of-kind (b ∷ []) = go (eqb b 82) (eqb b 67) (eqb b 69) (of-letter b 82) (of-letter b 67) (of-letter b 69)
   where
     go : (p q r : Bool) → T p ↔ (b ∷ [] ≡ 82 ∷ []) → T q ↔ (b ∷ [] ≡ 67 ∷ []) → T r ↔ (b ∷ [] ≡ 69 ∷ [])
-        → T (isKind (cond p real (cond q corrected (cond r estimated strange)))) ↔ ((b ∷ [] ≡ 82 ∷ []) ⊎ (b ∷ [] ≡ 67 ∷ []) ⊎ (b ∷ [] ≡ 69 ∷ []))
+        → T (isKind (cond p real (cond q corrected (cond r estimated noKind)))) ↔ ((b ∷ [] ≡ 82 ∷ []) ⊎ (b ∷ [] ≡ 67 ∷ []) ⊎ (b ∷ [] ≡ 69 ∷ []))
     go true q r f g h = (λ t. inl (f .0 tt), λ s. tt)
     go false true r f g h = (λ t. inr (inl (g .0 tt)), λ s. tt)
     go false false true f g h = (λ t. inr (inr (h .0 tt)), λ s. tt)
@@ -180,15 +180,15 @@ of-index-file ls = (λ t. forth (seek (λ (l : Line). cond (is S (tagOf l)) (som
     back : IndexFile ls → T (isIndexMeter (orElse (seek (λ (l : Line). cond (is S (tagOf l)) (some (siteOn l)) none) ls) noSite .meter))
     back q = rw (sought (siteOn (q .0)) .1 (q .0, q .1, refl)) (of-index-letter (fieldAt (q .0) 4) .1 (q .2))
 
-of-barred : (ls : List Line) (t : Tag) → T (barredIn ls t) ↔ Misplaced ls t
-unfolding barredIn
+of-barred : (ls : List Line) (t : Tag) → T (misplacedIn ls t) ↔ Misplaced ls t
+unfolding misplacedIn
 of-barred [] t = (
   λ s. inl (refl, of-not (is S t) (of-is S t) .0 s),
   λ s. elim s [ inl n ↦ of-not (is S t) (of-is S t) .1 (n .1) | inr r ↦ elim r [ inl q ↦ absurd (none-some q) | inr q ↦ absurd (none-some (first-some (q .1 .1))) ] ],
 )
 of-barred (k ∷ ls) t = Iff·trans (
-    of-or (any (λ (m : Line). stops (tagOf m) t) (k ∷ ls)) (is C t && isIndexMeter (siteIn (k ∷ ls) .meter))
-    (of-any (λ (m : Line). stops (tagOf m) t) (λ m. of-stops (tagOf m) t) (k ∷ ls))
+    of-or (any (λ (m : Line). rulesOut (tagOf m) t) (k ∷ ls)) (is C t && isIndexMeter (siteIn (k ∷ ls) .meter))
+    (of-any (λ (m : Line). rulesOut (tagOf m) t) (λ m. of-stops (tagOf m) t) (k ∷ ls))
     (of-and (is C t) (isIndexMeter (siteIn (k ∷ ls) .meter)) (of-is C t) (of-index-file (k ∷ ls)))
     ) (λ s. inr s, λ s. elim s [ inl n ↦ absurd (long (n .0)) | inr r ↦ r ])
   where
@@ -330,8 +330,8 @@ of-rising : (t : Tag) → T (isRising t) ↔ Rising t
 unfolding isRising
 of-rising t = of-or (hasDateOn t) (hasYearOn t) (of-dated t) (of-or (is B t) (is R t) (of-is B t) (of-is R t))
 
-of-reached : (ls : List Line) (t : Tag) (n : ℕ) → T (reachedIn ls t n) ↔ (Rising t × Some (λ k. (tagOf k ≡ t) × (n ≤ keyOf t k)) ls)
-unfolding reachedIn
+of-reached : (ls : List Line) (t : Tag) (n : ℕ) → T (notLaterIn ls t n) ↔ (Rising t × Some (λ k. (tagOf k ≡ t) × (n ≤ keyOf t k)) ls)
+unfolding notLaterIn
 of-reached ls t n =
     of-and (isRising t) (any (λ (m : Line). is t (tagOf m) && leb n (keyOf t m)) ls) (of-rising t)
     (of-any (λ (m : Line). is t (tagOf m) && leb n (keyOf t m)) (λ m. of-and (is t (tagOf m)) (leb n (keyOf t m)) (of-is t (tagOf m)) (of-le n (keyOf t m))) ls)
@@ -352,13 +352,13 @@ of-falling ls n = (λ t. forth (latest (λ (l : Line). cond (is X (tagOf l)) (so
     back q = rw (found (numberAt (q .0) 4) .1 (q .0, q .1, refl)) (of-lt n (numberAt (q .0) 4) .1 (q .2))
 
 -- ---- 11
-of-many : (ls : List Line) → T (leb 600 (count (λ (l : Line). is X (tagOf l)) ls)) ↔ ((n : ℕ) × Tally (λ k. tagOf k ≡ X) ls n × (600 ≤ n))
+of-many : (ls : List Line) → T (leb 600 (count (λ (l : Line). is X (tagOf l)) ls)) ↔ ((n : ℕ) × CountIs (λ k. tagOf k ≡ X) ls n × (600 ≤ n))
 of-many ls = Iff·trans (of-le 600 (count (λ (l : Line). is X (tagOf l)) ls)) (
   λ h. (count (λ (l : Line). is X (tagOf l)) ls, tally (count (λ (l : Line). is X (tagOf l)) ls) .0 refl, h),
   λ s. omega (arith, s .2, tally (s .0) .1 (s .1)),
 )
   where
-    tally : (n : ℕ) → (count (λ (l : Line). is X (tagOf l)) ls ≡ n) ↔ Tally (λ k. tagOf k ≡ X) ls n
+    tally : (n : ℕ) → (count (λ (l : Line). is X (tagOf l)) ls ≡ n) ↔ CountIs (λ k. tagOf k ≡ X) ls n
     tally n = of-count (λ (l : Line). is X (tagOf l)) (λ l. of-is X (tagOf l)) ls n
 
 -- ---- each condition

@@ -10,11 +10,11 @@ use lib.Dec.{T, eqb, ltb}
 use lib.ListN.{length}
 use borrow.Author.Tests.{eqb-true}
 use Rattle.lists.specs.Lists.{orElse, seek, present, Each, each-nil, Some}
-use Rattle.lists.specs.Words.{First}
+use Rattle.lists.specs.Restated.{First}
 use Rattle.lists.proofs.Laws.{some-map}
 use Rattle.lists.proofs.Reflect.{of-eq, of-lt, of-and, of-any}
 use Rattle.lists.proofs.Tables.{each-snoc}
-use Rattle.lists.proofs.Words.{none-some, some-cons, some-append, of-none, of-seek, seek-empty, of-count, first-has, first-append, first-snoc, first-with, some-each, present-keep}
+use Rattle.lists.proofs.RestatedLists.{none-some, some-cons, some-append, of-none, of-seek, seek-empty, of-count, first-has, first-append, first-snoc, first-with, some-each, present-keep}
 use Rattle.lists.proofs.Tests.{both-not, is-true}
 use Rattle.calendar.specs.Dates.{isDate, isWinter}
 use Rattle.calendar.specs.Places.{dateOfWinter}
@@ -23,15 +23,15 @@ use Rattle.calendar.proofs.Laws.Winter.{winter-day-place}
 use Rattle.text.specs.Fields.{fieldAt}
 use Rattle.text.specs.Numbers.{isDash}
 use Rattle.text.proofs.NumberLaws.{of-dash}
-use Rattle.meaning.specs.Filing.{noMeter, curveMeter, indexMeter, Kind, real, corrected, estimated, strange}
+use Rattle.meaning.specs.Filing.{noMeter, curveMeter, indexMeter, Kind, real, corrected, estimated, noKind}
 use Rattle.meaning.specs.Line.{Line, Tag, S, C, X, D, P, B, R, E, is, tagOf, meterOfLetter, meterOf, numberAt, yearOn, monthOn, dayOn, siteOn, valueAt, pointOf, kindOfLetter, kindOf, hasDateOn, dateKey, keyOf, winterOn, placeOn}
 use Rattle.meaning.specs.Refusals.{Reason, misplaced, noDate, notLater}
 use Rattle.meaning.specs.File.{siteIn, refusalAt, pointOn, pointIn, profileOn, profileIn, dailyOn, dailyIn, readingOn, readingsIn, brokenIn, rateIn, datesIn, endedIn}
 use Rattle.meaning.specs.Blocks.{letterOfKind}
 use Rattle.meaning.specs.Sheet.{outcomeBy, outcomeFrom, outcomeOf}
-use Rattle.meaning.specs.Words.Dates.{Date, Winter}
-use Rattle.meaning.specs.Words.Lines.{Dash, Dated, OnlyWinter, Rising, Words}
-use Rattle.meaning.specs.Words.Look.{Fine, fine-nil, fine-snoc, Names, readingOf, LookWords, SiteWords, KindWords, Stop, SheetWords}
+use Rattle.meaning.specs.Restated.Dates.{Date, Winter}
+use Rattle.meaning.specs.Restated.Lines.{Dash, Dated, OnlyWinter, Rising, Words}
+use Rattle.meaning.specs.Restated.Look.{AllAccepted, fine-nil, fine-snoc, Names, readingOf, LookWords, SiteWords, KindWords, FirstRefused, SheetWords}
 use Rattle.meaning.proofs.Pins.Dates.{date-words}
 use Rattle.meaning.proofs.Pins.Tables.{of-is}
 use Rattle.meaning.proofs.Pins.Lines.{refusal-words}
@@ -42,12 +42,12 @@ clear : (es : List Line) (l : Line) → refusalAt es l ≡ none → (y : Reason)
 clear es l e = refusal-words .accepted es l .0 e
 
 -- what holds of each accepted line holds of each line of a fine file
-fine-each : {Q : Line → Type 0} → ((es : List Line) (l : Line) → refusalAt es l ≡ none → Q l) → {ls : List Line} → Fine ls → Each Q ls
+fine-each : {Q : Line → Type 0} → ((es : List Line) (l : Line) → refusalAt es l ≡ none → Q l) → {ls : List Line} → AllAccepted ls → Each Q ls
 fine-each q fine-nil = each-nil
 fine-each q (fine-snoc ls l f e) = each-snoc (fine-each q f) (q ls l e)
 
 -- where no accepted line has P after one that has, one that has P is the first
-once : {A B : Line → Type 0} → ((es : List Line) (l : Line) → Fine es → refusalAt es l ≡ none → A l → ¬ Some A es) → {ls : List Line} → Fine ls
+once : {A B : Line → Type 0} → ((es : List Line) (l : Line) → AllAccepted es → refusalAt es l ≡ none → A l → ¬ Some A es) → {ls : List Line} → AllAccepted ls
     → Some (λ k. A k × B k) ls → (k : Line) × First A k ls × B k
 once never fine-nil s = absurd (none-some s)
 once {A} {B} never (fine-snoc ls l f e) s = go (some-append ls (l ∷ []) .0 s) (λ t. once {A = A} {B = B} never f t)
@@ -92,7 +92,7 @@ only-winter : (t : Tag) → OnlyWinter t → T (hasDateOn t) × Rising t
 only-winter t (inl e) = (rw e tt, inl (inl e))
 only-winter t (inr e) = (rw e tt, inl (inr (inr (inr e))))
 
-no-second : (t : Tag) → OnlyWinter t → (y w : ℕ) (es : List Line) (l : Line) → Fine es → refusalAt es l ≡ none → Names t y w l → ¬ Some (Names t y w) es
+no-second : (t : Tag) → OnlyWinter t → (y w : ℕ) (es : List Line) (l : Line) → AllAccepted es → refusalAt es l ≡ none → Names t y w l → ¬ Some (Names t y w) es
 no-second t o y w es l f e n s =
     rises es l t e (only-winter t o .1) (n .0)
     (some-map (λ k q. (q .0 .0, same k (q .0) (q .1))) (some-each s (fine-each {Q = λ k. OnlyWinter (tagOf k) → T (isDate (yearOn k) (monthOn k) (dayOn k)) × T (isWinter (monthOn k))} winter-date f)))
@@ -113,7 +113,7 @@ of-names t y w h l =
     of-and (is t (tagOf l)) (eqb (yearOn l) y && (eqb (winterOn l) w && ltb h 20)) (of-is t (tagOf l))
     (of-and (eqb (yearOn l) y) (eqb (winterOn l) w && ltb h 20) (of-eq (yearOn l) y) (of-and (eqb (winterOn l) w) (ltb h 20) (of-eq (winterOn l) w) (of-lt h 20)))
 
-no-second-at : (t : Tag) → OnlyWinter t → (y w h : ℕ) (es : List Line) (l : Line) → Fine es → refusalAt es l ≡ none → NamesAt t y w h l → ¬ Some (NamesAt t y w h) es
+no-second-at : (t : Tag) → OnlyWinter t → (y w h : ℕ) (es : List Line) (l : Line) → AllAccepted es → refusalAt es l ≡ none → NamesAt t y w h l → ¬ Some (NamesAt t y w h) es
 no-second-at t o y w h es l f e n s = no-second t o y w es l f e (n .0, (n .1 .0, n .1 .1 .0)) (some-map (λ k m. (m .0, (m .1 .0, m .1 .1 .0))) s)
 
 -- ---- points
@@ -135,7 +135,7 @@ sought-point ls y w h v =
     deep none = (λ e. let z : _≡_ {A = ℕ} 0 1 = cc in absurd (omega arith), λ e. let z : _≡_ {A = ℕ} 0 1 = cc in absurd (omega arith))
     deep (some o) = (λ e. ap some e, λ e. let z : o ≡ some v = cc in z)
 
-point-words : (ls : List Line) → Fine ls → (y w h v : ℕ)
+point-words : (ls : List Line) → AllAccepted ls → (y w h v : ℕ)
     → (pointIn ls y w h ≡ some v) ↔ ((h < 20) × Some (λ l. Names C y w l × ((¬ Dash (fieldAt l (4 + h))) × (numberAt l (4 + h) ≡ v))) ls)
 point-words ls f y w h v = Iff·trans (sought-point ls y w h v) (
   λ q. (first-has (q .1) .1 .1 .1, some-map (λ k n. ((n .0 .0, (n .0 .1 .0, n .0 .1 .1 .0)), of-point k h v .0 (n .1))) (first-with {Q = λ k. pointOf k h ≡ some v} (q .1) (q .2))),
@@ -144,12 +144,12 @@ point-words ls f y w h v = Iff·trans (sought-point ls y w h v) (
 )
 
 -- ---- profiles, daily sums, the site, rates
--- what the first says, where some line says it
-found : {A : Type 0} (p : Line → Bool) (g : Line → A) {B : Line → Type 0} → ((l : Line) → T (p l) ↔ B l) → ((es : List Line) (l : Line) → Fine es → refusalAt es l ≡ none → B l → ¬ Some B es)
-    → (ls : List Line) → Fine ls → (a : A) → Some (λ l. B l × (g l ≡ a)) ls → seek (λ l. cond (p l) (some (g l)) none) ls ≡ some a
+-- what the first such line says, where there is one
+found : {A : Type 0} (p : Line → Bool) (g : Line → A) {B : Line → Type 0} → ((l : Line) → T (p l) ↔ B l) → ((es : List Line) (l : Line) → AllAccepted es → refusalAt es l ≡ none → B l → ¬ Some B es)
+    → (ls : List Line) → AllAccepted ls → (a : A) → Some (λ l. B l × (g l ≡ a)) ls → seek (λ l. cond (p l) (some (g l)) none) ls ≡ some a
 found p g {B} r never ls f a s = of-seek p g r a ls .1 (once {A = B} {B = λ l. g l ≡ a} never f s)
 
-profile-words : (ls : List Line) → Fine ls → (y w h v : ℕ) → h < 20 → Some (λ l. Names P y w l × (numberAt l (4 + h) ≡ v)) ls → profileIn ls y w h ≡ v
+profile-words : (ls : List Line) → AllAccepted ls → (y w h v : ℕ) → h < 20 → Some (λ l. Names P y w l × (numberAt l (4 + h) ≡ v)) ls → profileIn ls y w h ≡ v
 unfolding profileIn profileOn valueAt
 profile-words ls f y w h v c s =
     rw (found (λ (l : Line). is P (tagOf l) && (eqb (yearOn l) y && (eqb (winterOn l) w && ltb h 20))) (λ l. numberAt l (4 + h)) (of-names P y w h) (no-second-at P (inr refl) y w h) ls f v
@@ -167,11 +167,11 @@ OnDay y p l = (tagOf l ≡ D) × ((yearOn l ≡ y) × (placeOn l ≡ p))
 of-day : (y p : ℕ) (l : Line) → T (is D (tagOf l) && (eqb (yearOn l) y && eqb (placeOn l) p)) ↔ OnDay y p l
 of-day y p l = of-and (is D (tagOf l)) (eqb (yearOn l) y && eqb (placeOn l) p) (of-is D (tagOf l)) (of-and (eqb (yearOn l) y) (eqb (placeOn l) p) (of-eq (yearOn l) y) (of-eq (placeOn l) p))
 
-no-second-day : (y p : ℕ) (es : List Line) (l : Line) → Fine es → refusalAt es l ≡ none → OnDay y p l → ¬ Some (OnDay y p) es
+no-second-day : (y p : ℕ) (es : List Line) (l : Line) → AllAccepted es → refusalAt es l ≡ none → OnDay y p l → ¬ Some (OnDay y p) es
 unfolding keyOf dateKey placeOn
 no-second-day y p es l f e n s = rises es l D e (inl (inr (inr (inl refl)))) (n .0) (some-map (λ k m. (m .0, omega (arith, n .1 .0, n .1 .1, m .1 .0, m .1 .1))) s)
 
-daily-words : (ls : List Line) → Fine ls → (y p v : ℕ) → Some (λ l. OnDay y p l × (numberAt l 4 ≡ v)) ls → dailyIn ls y p ≡ v
+daily-words : (ls : List Line) → AllAccepted ls → (y p v : ℕ) → Some (λ l. OnDay y p l × (numberAt l 4 ≡ v)) ls → dailyIn ls y p ≡ v
 unfolding dailyIn dailyOn
 daily-words ls f y p v s = rw (found (λ (l : Line). is D (tagOf l) && (eqb (yearOn l) y && eqb (placeOn l) p)) (λ l. numberAt l 4) (of-day y p) (no-second-day y p) ls f v s)
 
@@ -180,11 +180,11 @@ unfolding dailyIn dailyOn
 no-daily-words ls y p n =
     rw (seek-empty (λ (l : Line). is D (tagOf l) && (eqb (yearOn l) y && eqb (placeOn l) p)) (λ l. numberAt l 4) ls .0 (λ s. n (some-map (λ k t. of-day y p k .0 t) s)))
 
-no-second-site : (es : List Line) (l : Line) → Fine es → refusalAt es l ≡ none → tagOf l ≡ S → ¬ Some (λ k. tagOf k ≡ S) es
+no-second-site : (es : List Line) (l : Line) → AllAccepted es → refusalAt es l ≡ none → tagOf l ≡ S → ¬ Some (λ k. tagOf k ≡ S) es
 unfolding Words
 no-second-site es l f e n s = clear es l e misplaced (inr (inl (some-map (λ k m. inr (inl n)) s)))
 
-site-words-in : (ls : List Line) → Fine ls → (l : Line) → Some (λ k. (tagOf k ≡ S) × (k ≡ l)) ls → siteIn ls ≡ siteOn l
+site-words-in : (ls : List Line) → AllAccepted ls → (l : Line) → Some (λ k. (tagOf k ≡ S) × (k ≡ l)) ls → siteIn ls ≡ siteOn l
 unfolding siteIn
 site-words-in ls f l s = rw (found (λ (k : Line). is S (tagOf k)) siteOn (λ k. of-is S (tagOf k)) no-second-site ls f (siteOn l) (some-map (λ k m. (m .0, ap siteOn (m .1))) s))
 
@@ -194,11 +194,11 @@ OfYear t y l = (tagOf l ≡ t) × (yearOn l ≡ y)
 of-year : (t : Tag) (y : ℕ) (l : Line) → T (is t (tagOf l) && eqb (yearOn l) y) ↔ OfYear t y l
 of-year t y l = of-and (is t (tagOf l)) (eqb (yearOn l) y) (of-is t (tagOf l)) (of-eq (yearOn l) y)
 
-no-second-rate : (y : ℕ) (es : List Line) (l : Line) → Fine es → refusalAt es l ≡ none → OfYear R y l → ¬ Some (OfYear R y) es
+no-second-rate : (y : ℕ) (es : List Line) (l : Line) → AllAccepted es → refusalAt es l ≡ none → OfYear R y l → ¬ Some (OfYear R y) es
 no-second-rate y es l f e n s =
     rises es l R e (inr (inr refl)) (n .0) (some-map (λ k m. (m .0, omega (arith, n .1, m .1, refusal-words .years R l (inr refl), refusal-words .years R k (inr refl)))) s)
 
-rate-words : (ls : List Line) → Fine ls → (y r : ℕ) → (rateIn ls y ≡ some r) ↔ Some (λ l. OfYear R y l × (numberAt l 2 ≡ r)) ls
+rate-words : (ls : List Line) → AllAccepted ls → (y r : ℕ) → (rateIn ls y ≡ some r) ↔ Some (λ l. OfYear R y l × (numberAt l 2 ≡ r)) ls
 unfolding rateIn
 rate-words ls f y r = (
   λ e. let q = of-seek (λ (l : Line). is R (tagOf l) && eqb (yearOn l) y) (λ l. numberAt l 2) (of-year R y) r ls .0 e in first-with {Q = λ l. numberAt l 2 ≡ r} (q .1) (q .2),
@@ -258,11 +258,11 @@ site-words l = record { al = refl; filiere = refl; ps = refl; curve = curve-lett
 
 -- ---- kinds
 -- of three letters tried in order, the one that fits is the kind's own
-kind-is : (k : Kind) → k ≢ strange → (b : ℕ) → kindOfLetter b ≡ k → b ≡ letterOfKind k
+kind-is : (k : Kind) → k ≢ noKind → (b : ℕ) → kindOfLetter b ≡ k → b ≡ letterOfKind k
 unfolding kindOfLetter
 kind-is k n b e =
-    try 82 real refl (cond (eqb b 67) corrected (cond (eqb b 69) estimated strange))
-    (try 67 corrected refl (cond (eqb b 69) estimated strange) (try 69 estimated refl strange (λ q. absurd (n (sym q))))) e
+    try 82 real refl (cond (eqb b 67) corrected (cond (eqb b 69) estimated noKind))
+    (try 67 corrected refl (cond (eqb b 69) estimated noKind) (try 69 estimated refl noKind (λ q. absurd (n (sym q))))) e
   where
     try : (a : ℕ) (u : Kind) → a ≡ letterOfKind u → (rest : Kind) → (rest ≡ k → b ≡ letterOfKind k) → cond (eqb b a) u rest ≡ k → b ≡ letterOfKind k
     try a u h rest r q = go (eqb b a) refl q
@@ -271,7 +271,7 @@ kind-is k n b e =
         go true i j = eqb-true b a i ∙ h ∙ ap letterOfKind j
         go false i j = r j
 
-kind-letter : (k : Kind) → k ≢ strange → kindOfLetter (letterOfKind k) ≡ k → (f : List ℕ) → (kindOf f ≡ k) ↔ (f ≡ letterOfKind k ∷ [])
+kind-letter : (k : Kind) → k ≢ noKind → kindOfLetter (letterOfKind k) ≡ k → (f : List ℕ) → (kindOf f ≡ k) ↔ (f ≡ letterOfKind k ∷ [])
 unfolding kindOf
 kind-letter k n h f = (one f, λ e. ap kindOf e ∙ h)
   where
@@ -280,8 +280,8 @@ kind-letter k n h f = (one f, λ e. ap kindOf e ∙ h)
     one (b ∷ []) e = ap (λ (x : ℕ). x ∷ []) (kind-is k n b e)
     one (b ∷ c ∷ g) e = absurd (n (sym e))
 
--- a kind whose letter is a letter is not strange
-not-strange : (k : Kind) → T (not (eqb (letterOfKind k) 0)) → k ≢ strange
+-- a kind whose letter is not 0 is not `noKind`
+not-strange : (k : Kind) → T (not (eqb (letterOfKind k) 0)) → k ≢ noKind
 not-strange k h e = both-not (eqb (letterOfKind k) 0) (of-eq (letterOfKind k) 0 .1 (ap letterOfKind e)) h
 
 pub kind-words : (f : List ℕ) → KindWords f
@@ -293,16 +293,16 @@ kind-words f = record {
 }
 
 -- ---- the sheet
-fine-on : {es : List Line} → Fine es → (later : List Line) → outcomeOf (es ++ later) ≡ outcomeFrom es later
+fine-on : {es : List Line} → AllAccepted es → (later : List Line) → outcomeOf (es ++ later) ≡ outcomeFrom es later
 unfolding outcomeOf outcomeFrom outcomeBy
 fine-on fine-nil later = refl
 fine-on (fine-snoc ls l f e) later = rw (append-assoc ls (l ∷ []) later) (fine-on f (l ∷ later) ∙ rw e)
 
-either-from : (ls es : List Line) → Fine es → Fine (es ++ ls) ⊎ Stop (es ++ ls)
+either-from : (ls es : List Line) → AllAccepted es → AllAccepted (es ++ ls) ⊎ FirstRefused (es ++ ls)
 either-from [] es f = inl (rw (append-nil es) f)
 either-from (l ∷ ls) es f = go (refusalAt es l) refl (either-from ls (es ++ (l ∷ [])))
   where
-    go : (o : Option Reason) → refusalAt es l ≡ o → (Fine (es ++ (l ∷ [])) → Fine ((es ++ (l ∷ [])) ++ ls) ⊎ Stop ((es ++ (l ∷ [])) ++ ls)) → Fine (es ++ (l ∷ ls)) ⊎ Stop (es ++ (l ∷ ls))
+    go : (o : Option Reason) → refusalAt es l ≡ o → (AllAccepted (es ++ (l ∷ [])) → AllAccepted ((es ++ (l ∷ [])) ++ ls) ⊎ FirstRefused ((es ++ (l ∷ [])) ++ ls)) → AllAccepted (es ++ (l ∷ ls)) ⊎ FirstRefused (es ++ (l ∷ ls))
     go none e r = rw (append-assoc es (l ∷ []) ls) at (r (fine-snoc es l f e))
     go (some y) e r = inr (record { taken = es; line = l; left = ls; reason = y; file = refl; fine = f; refused = e })
 

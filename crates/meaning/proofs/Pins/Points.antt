@@ -10,10 +10,10 @@ use lib.Dec.{T, eqb, ltb, not-T}
 use lib.ListN.{length, getD}
 use borrow.Author.Tests.{lt-ltb, ne-eqb}
 use Rattle.lists.specs.Lists.{isSome, flat, tab, present, sum, count, Each}
-use Rattle.lists.specs.Words.{Tally}
+use Rattle.lists.specs.Restated.{CountIs}
 use Rattle.lists.proofs.Laws.{length-tab, getD-tab0}
 use Rattle.lists.proofs.Reflect.{of-eq, of-not, of-and, of-lt}
-use Rattle.lists.proofs.Words.{of-none, of-count, count-flat, count-none, present-count, sum-same, some-at}
+use Rattle.lists.proofs.RestatedLists.{of-none, of-count, count-flat, count-none, present-count, sum-same, some-at}
 use Rattle.lists.proofs.Tables.{tab-same}
 use Rattle.lists.proofs.Blocks.{tab-shift, map-range, sum-blocks, count-blocks, sum-short, sum-places, count-same}
 use Rattle.lists.proofs.Tests.{is-false}
@@ -24,8 +24,8 @@ use Rattle.note.proofs.PeakDays.{days-length, most-days}
 use Rattle.meaning.specs.Filing.{Filing, historyOf, yearsIn, historyList}
 use Rattle.meaning.specs.Points.{placeOf, yearPlaces, allPlaces, pointAt}
 use Rattle.meaning.specs.Level.{pointsIn, presentIn, counted, missingEntry, entryOf, curveEntry, curveOf}
-use Rattle.meaning.specs.Words.Years.{OfHistory}
-use Rattle.meaning.specs.Words.Points.{Used, pointOfPlace, CurveWords}
+use Rattle.meaning.specs.Restated.Years.{OfHistory}
+use Rattle.meaning.specs.Restated.Points.{Used, pointOfPlace, CurveWords}
 use Rattle.meaning.proofs.Pins.Dates.{date-words}
 use Rattle.meaning.proofs.Pins.Close.{some-places}
 use Rattle.meaning.proofs.Pins.Sources.{points-apart}
@@ -116,7 +116,7 @@ curve-rows F =
         let start : 22 * k ≡ 22 * k + 0 = omega arith in
         ap sum (ap (λ (i : ℕ). tab 22 i byRow) start ∙ tab-shift 22 (22 * k) 0 byRow ∙ tab-same 22 0 (λ j. byRow (22 * k + j)) (row F k) (λ j c. year-at k j (omega arith)))
 
--- an entry that does not come to what stands for missing is given where its point is
+-- an entry that is not the value for missing is present where its point is
 given-entry : (o : Option ℕ) → o ≢ some missingEntry → given (entryOf o) ≡ isSome o
 unfolding given entryOf
 given-entry none n = refl
@@ -175,7 +175,7 @@ module _ (F : Filing) (apart : Each (λ q. pointAt q ≢ some missingEntry) (all
       first : historyOf F .first + 0 ≡ historyOf F .first
       first = omega arith
 
-  curve-tally : Tally (λ e. e ≢ missingEntry) (curveOf F) (counted F)
+  curve-tally : CountIs (λ e. e ≢ missingEntry) (curveOf F) (counted F)
   unfolding given
   curve-tally = of-count given (λ e. of-not (eqb e missingEntry) (of-eq e missingEntry)) (curveOf F) (counted F) .0 curve-counted
 

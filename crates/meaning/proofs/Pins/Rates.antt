@@ -10,12 +10,12 @@ use lib.Dec.{leb}
 use borrow.Author.Tests.{leb-true, leb-false}
 use Rattle.lists.specs.Lists.{present, Some, here, there}
 use Rattle.lists.proofs.Laws.{some-map, paired, least-top, least-each}
-use Rattle.lists.proofs.Words.{map-some, some-present}
+use Rattle.lists.proofs.RestatedLists.{map-some, some-present}
 use Rattle.meaning.specs.Filing.{Filing, historyList}
 use Rattle.meaning.specs.Points.{appliedRate}
 use Rattle.meaning.specs.Level.{lowestRate}
-use Rattle.meaning.specs.Words.Years.{SomeYear}
-use Rattle.meaning.specs.Words.Calls.{LowestWords}
+use Rattle.meaning.specs.Restated.Years.{SomeYear}
+use Rattle.meaning.specs.Restated.Calls.{LowestWords}
 use Rattle.meaning.proofs.Pins.Cases.{some-history}
 
 least-is : (n : ℕ) (xs : List ℕ) → (foldr min n xs ≡ n) ⊎ Some (λ x. x ≡ foldr min n xs) xs

@@ -1,4 +1,4 @@
--- Where the points come from, and that none comes to what stands for missing.
+-- Where the points come from, and that none has the value that stands for missing.
 use mathlib.Core.Path.{_≡_, refl, ap, sym, _∙_}
 use mathlib.Core.Logic.{_≢_, _↔_, inr, Iff·trans}
 use mathlib.Core.Bool.{Bool, true, false, _&&_, cond}
@@ -9,10 +9,10 @@ use native.Mathlib.Omega.{arith}
 use lib.Dec.{T, leb, ltb}
 use borrow.Author.Tests.{leb-true, leb-false}
 use Rattle.lists.specs.Lists.{firstOf, sum, Each, Some}
-use Rattle.lists.specs.Words.{Adjacent, First}
+use Rattle.lists.specs.Restated.{Adjacent, First}
 use Rattle.lists.proofs.Laws.{paired}
 use Rattle.lists.proofs.Reflect.{of-and, of-le, of-lt}
-use Rattle.lists.proofs.Words.{of-none, of-firstOf, of-order-none, first-with, map-some, some-present}
+use Rattle.lists.proofs.RestatedLists.{of-none, of-firstOf, of-order-none, first-with, map-some, some-present}
 use Rattle.calendar.specs.Places.{hasWinterDate}
 use Rattle.note.specs.Peaks.{peakDays}
 use Rattle.rounding.specs.Rounding.{halfUp}
@@ -22,12 +22,12 @@ use Rattle.rounding.proofs.Formulas.{rated-most}
 use Rattle.meaning.specs.Filing.{Filing, Reading, historyList}
 use Rattle.meaning.specs.Validity.{Interval, intervals, hasDay, energyOf, totalOf, curveValid, indexValid}
 use Rattle.meaning.specs.Cases.{Case, caseM, case1, case2, case3, case4, caseP, case5, case6, caseOf}
-use Rattle.meaning.specs.Points.{Origin, asRead, byProfile, fractionOf, Donor, Source, missing, own, fromDonors, fromDefault, positionAt, intervalAt, profiledIn, profiledAt, readBy, readAt, donorOf, curveDonor, indexDonor, curveDonors, indexDonors, ownOf, rebuiltBy, defaultAt, sourceBy, sourceAt, roundedOrigin, donorCas, donorPoints, meant, appliedRate, withRate, placeOf, allPlaces, ratedBy, pointAt}
+use Rattle.meaning.specs.Points.{Origin, asRead, byProfile, fractionOf, Donor, Source, missing, own, fromDonors, fromDefault, positionAt, intervalAt, profiledIn, profiledAt, readBy, readAt, donorOf, curveDonor, indexDonor, curveDonors, indexDonors, ownOf, rebuiltBy, defaultAt, sourceBy, sourceAt, roundedOrigin, donorCas, donorPoints, roundedPoint, appliedRate, withRate, placeOf, allPlaces, ratedBy, pointAt}
 use Rattle.meaning.specs.Level.{missingEntry}
 use Rattle.meaning.specs.Closing.{tooHigh, closingRefusal}
-use Rattle.meaning.specs.Words.Years.{Between, CurveValid, IndexValid, OfHistory, SomeYear}
-use Rattle.meaning.specs.Words.Close.{HighOrigin, High, CloseWords}
-use Rattle.meaning.specs.Words.Points.{SourceWords}
+use Rattle.meaning.specs.Restated.Years.{Between, CurveValid, IndexValid, OfHistory, SomeYear}
+use Rattle.meaning.specs.Restated.Close.{HighOrigin, High, CloseWords}
+use Rattle.meaning.specs.Restated.Points.{SourceWords}
 use Rattle.meaning.proofs.Pins.Years.{valid-words, some-intervals}
 use Rattle.meaning.proofs.Pins.Cases.{some-history}
 use Rattle.meaning.proofs.Pins.Close.{some-places, closing-words}
@@ -49,9 +49,9 @@ origin-most : (o : Origin) → (¬ HighOrigin o) → ((v : ℕ) → o ≡ asRead
 origin-most (asRead v) n r = omega (arith, read-whole v, r v refl)
 origin-most (byProfile e p t) n r = unfold roundedOrigin fractionOf in (at-most 200000000000 (rounded (profiled e p t)) n)
 
--- what is not high comes to no more than 200,000,000,000 mW
-meant-most : (s : Source) → (¬ High s) → ((v : ℕ) → s ≡ own (asRead v) → v ≤ 100000000) → (p : ℕ) → meant s ≡ some p → p ≤ 200000000000
-unfolding meant
+-- a point that is not high is at most 200,000,000,000 mW
+meant-most : (s : Source) → (¬ High s) → ((v : ℕ) → s ≡ own (asRead v) → v ≤ 100000000) → (p : ℕ) → roundedPoint s ≡ some p → p ≤ 200000000000
+unfolding roundedPoint
 meant-most missing n r p e = let z : _≡_ {A = ℕ} 0 1 = cc in absurd (omega arith)
 meant-most (own o) n r p e = let z : roundedOrigin o ≡ p = cc in omega (arith, origin-most o n (λ v q. r v (ap own q)))
 meant-most (fromDonors ca ds) n r p e = let z : rounded (rebuilt ca (donorPoints ds) (donorCas ds)) ≡ p = cc in omega (arith, at-most 200000000000 (rounded (rebuilt ca (donorPoints ds) (donorCas ds))) (λ h. n (inr h)))
@@ -88,16 +88,16 @@ read-source caseP F y w h v e = absurd (profiled-not-read F (intervalAt F y w) (
 read-source case5 F y w h v e = absurd (rebuilt-not-read (F .ca y) (indexDonors F w h) v e)
 read-source case6 F y w h v e = absurd (default-not-read F y w h v e)
 
--- after the rate it is still below what stands for missing
+-- after the rate it is still below the value that stands for missing
 rated-apart : (r : Option ℕ) → ((n : ℕ) → r ≡ some n → 10 ≤ n) → (o : Option ℕ) → ((p : ℕ) → o ≡ some p → p ≤ 200000000000) → ratedBy r o ≢ some missingEntry
 unfolding ratedBy withRate
 rated-apart r k none m e = let z : _≡_ {A = ℕ} 0 1 = cc in omega arith
 rated-apart none k (some p) m e = let z : p ≡ missingEntry = cc in omega (arith, m p refl)
 rated-apart (some n) k (some p) m e = let z : rounded (rated p n) ≡ missingEntry = cc in omega (arith, rated-most p n (m p refl) (k n refl))
 
-place-apart : (F : Filing) (y w h : ℕ) → ((n : ℕ) → F .rate y ≡ some n → 10 ≤ n) → ((p : ℕ) → meant (sourceAt F y w h) ≡ some p → p ≤ 200000000000) → pointAt (placeOf F y w h) ≢ some missingEntry
+place-apart : (F : Filing) (y w h : ℕ) → ((n : ℕ) → F .rate y ≡ some n → 10 ≤ n) → ((p : ℕ) → roundedPoint (sourceAt F y w h) ≡ some p → p ≤ 200000000000) → pointAt (placeOf F y w h) ≢ some missingEntry
 unfolding pointAt placeOf appliedRate
-place-apart F y w h r m = rated-apart (F .rate y) r (meant (sourceAt F y w h)) m
+place-apart F y w h r m = rated-apart (F .rate y) r (roundedPoint (sourceAt F y w h)) m
 
 pub points-apart : (F : Filing) → closingRefusal F ≡ none → ((y w h v : ℕ) → F .point y w h ≡ some v → v ≤ 100000000)
     → ((y r : ℕ) → F .rate y ≡ some r → 10 ≤ r) → Each (λ q. pointAt q ≢ some missingEntry) (allPlaces F)
@@ -114,16 +114,16 @@ points-apart F e points rates = of-none {P = λ q. pointAt q ≡ some missingEnt
 
 -- ---- measured years
 measured-point : (F : Filing) (y w h v : ℕ) → caseOf F y ≡ caseM → F .point y w h ≡ some v → pointAt (placeOf F y w h) ≡ some (withRate (F .rate y) (1000 * v))
-unfolding pointAt placeOf appliedRate sourceAt sourceBy readAt readBy ownOf meant ratedBy
+unfolding pointAt placeOf appliedRate sourceAt sourceBy readAt readBy ownOf roundedPoint ratedBy
 measured-point F y w h v c e = rw (c, e) (ap (λ (p : ℕ). some (withRate (F .rate y) p)) (read-whole v))
 
 missing-point : (F : Filing) (y w h : ℕ) → caseOf F y ≡ caseM → F .point y w h ≡ none → pointAt (placeOf F y w h) ≡ none
-unfolding pointAt placeOf appliedRate sourceAt sourceBy readAt readBy ownOf meant ratedBy
+unfolding pointAt placeOf appliedRate sourceAt sourceBy readAt readBy ownOf roundedPoint ratedBy
 missing-point F y w h c e = rw (c, e)
 
 -- ---- one donor
-one-donor : (d : Donor) → 0 < d .ca → meant (fromDonors (d .ca) (d ∷ [])) ≡ some (roundedOrigin (d .origin))
-unfolding meant donorPoints donorCas sum rounded rebuilt
+one-donor : (d : Donor) → 0 < d .ca → roundedPoint (fromDonors (d .ca) (d ∷ [])) ≡ some (roundedOrigin (d .origin))
+unfolding roundedPoint donorPoints donorCas sum rounded rebuilt
 one-donor d a =
     ap some (half-up-only (d .ca * (roundedOrigin (d .origin) + 0)) (d .ca + 0) (roundedOrigin (d .origin)) (omega arith) (omega arith))
 

@@ -14,10 +14,10 @@ use Rattle.lists.proofs.Laws.{length-tab, getD-tab0}
 use Rattle.lists.proofs.Tables.{getD-sets-same, getD-sets-other}
 use Rattle.lists.proofs.Reflect.{of-and, of-not, of-le}
 use Rattle.meaning.specs.Line.{Line, C, X, D, P, is, tagOf, numberAt, yearOn, valueAt, pointOf}
-use Rattle.meaning.specs.Blocks.{World, missingPoint, freshReading, codeOfPoint, isNear, nearStart, farStart, slotsStart, slotAt}
+use Rattle.meaning.specs.Blocks.{Blocks, missingPoint, freshReading, codeOfPoint, isNear, nearStart, farStart, slotsStart, slotAt}
 use Rattle.meaning.specs.Record.{Rec, axisOfRec}
-use Rattle.meaning.specs.Calls.{Out, pointCodes, profileValues, positionOn, readingAt, worldAfter, judged}
-use Rattle.meaning.specs.Words.Stores.{Put, Stores, StoreWords}
+use Rattle.meaning.specs.Calls.{Out, pointCodes, profileValues, positionOn, readingAt, blocksAfter, lineBy}
+use Rattle.meaning.specs.Restated.Stores.{Put, Stores, StoreWords}
 use Rattle.meaning.proofs.Pins.Tables.{of-is}
 use Rattle.meaning.proofs.Pins.Calls.{line-is}
 
@@ -42,8 +42,8 @@ far-year : (al y : ℕ) → T (not (isNear al y)) ↔ (y < al - 9)
 unfolding isNear
 far-year al y = (nleb→lt (al - 9) y, λ k. of-not (leb (al - 9) y) (of-le (al - 9) y) .1 (λ n. omega arith))
 
-stores : (l : Line) (s : Rec) (w : World) → Stores l s w ((judged none s l w) .world)
-unfolding judged worldAfter pointCodes profileValues positionOn readingAt nearStart farStart slotsStart slotAt tab
+stores : (l : Line) (s : Rec) (w : Blocks) → Stores l s w ((lineBy none s l w) .blocks)
+unfolding lineBy blocksAfter pointCodes profileValues positionOn readingAt nearStart farStart slotsStart slotAt tab
 stores l s w = record {
   near =
       put (is C (tagOf l) && isNear (s .site .al) (yearOn l)) (of-and (is C (tagOf l)) _ (of-is C (tagOf l)) (near-year (s .site .al) (yearOn l))) missingPoint _ _ 20
@@ -58,4 +58,4 @@ stores l s w = record {
 }
 
 pub store-words : StoreWords
-store-words s l w f e h = subst (λ (o : Out). Stores l s w (o .world)) (sym (line-is s l w f e none h)) (stores l s w)
+store-words s l w f e h = subst (λ (o : Out). Stores l s w (o .blocks)) (sym (line-is s l w f e none h)) (stores l s w)

@@ -12,11 +12,11 @@ use Rattle.lists.proofs.Tests.{both-not}
 use Rattle.text.specs.Fields.{upTo, restAt, fieldAt}
 use Rattle.meaning.specs.Line.{Line, Tag, S, C, X, D, P, B, R, E, other, rank, is, tagOfLetter, tagOfField, tagOf, size, formsOf}
 use Rattle.meaning.specs.Refusals.{numberOf}
-use Rattle.meaning.specs.Closing.{lackNumber}
-use Rattle.meaning.specs.Words.Tables.{NumberWords, TagWords}
+use Rattle.meaning.specs.Closing.{closeNumber}
+use Rattle.meaning.specs.Restated.Tables.{NumberWords, TagWords}
 
 pub number-words : NumberWords
-unfolding numberOf lackNumber formsOf
+unfolding numberOf closeNumber formsOf
 number-words = record { line = refl; close = refl; fields = refl; forms = sized }
   where
     sized : (t : Tag) → t ≢ other → size t ≡ length (formsOf t) + 1

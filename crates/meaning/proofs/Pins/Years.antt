@@ -9,19 +9,19 @@ use native.Mathlib.Omega.{arith}
 use lib.Dec.{T, leb, ltb, eqb}
 use lib.ListN.{length}
 use Rattle.lists.specs.Lists.{any, all, keep, tab, range, count, isSome, neighbours, Each, Some}
-use Rattle.lists.specs.Words.{Tally, Adjacent}
+use Rattle.lists.specs.Restated.{CountIs, Adjacent}
 use Rattle.lists.proofs.Reflect.{of-eq, of-le, of-lt, of-and, of-not, of-any, of-all}
-use Rattle.lists.proofs.Words.{of-count, count-flat, count-map, count-rises, sum-same, sum-rises, sum-constant, length-flat, some-keep, each-keep, map-some, map-each, some-range, each-range, some-neighbours, each-neighbours}
+use Rattle.lists.proofs.RestatedLists.{of-count, count-flat, count-map, count-rises, sum-same, sum-rises, sum-constant, length-flat, some-keep, each-keep, map-some, map-each, some-range, each-range, some-neighbours, each-neighbours}
 use Rattle.calendar.specs.Dates.{isWinter}
 use Rattle.calendar.specs.Places.{hasDate, monthOf}
 use Rattle.calendar.specs.Spans.{yearAt, placeAt}
 use Rattle.note.specs.Peaks.{peakDays, peakCount, hasPeaks, dayCounts}
 use Rattle.note.proofs.PeakDays.{days-length}
 use Rattle.calendar.proofs.Tables.{given}
-use Rattle.meaning.specs.Filing.{Filing, Kind, real, corrected, estimated, strange, isTrusted, Reading, axisOf, yearOf}
+use Rattle.meaning.specs.Filing.{Filing, Kind, real, corrected, estimated, noKind, isTrusted, Reading, axisOf, yearOf}
 use Rattle.meaning.specs.Validity.{Interval, halfHours, expectedPoints, presentPoints, enough, curveValid, intervals, daysOf, hasDay, isWinterDay, overlapsWinter, winterDays, isCovered, isSound, indexValid}
-use Rattle.meaning.specs.Words.Dates.{Winter}
-use Rattle.meaning.specs.Words.Years.{peakPoints, Present, CurveValid, Between, WinterDay, Trusted, IndexValid, ValidWords}
+use Rattle.meaning.specs.Restated.Dates.{Winter}
+use Rattle.meaning.specs.Restated.Years.{peakPoints, Present, CurveValid, Between, WinterDay, Trusted, IndexValid, ValidWords}
 use Rattle.meaning.proofs.Pins.Dates.{date-words}
 
 -- ---- curve years
@@ -36,7 +36,7 @@ present-pairs F y =
     ∙ sum-same (λ w. count (λ (q : ℕ × ℕ). isSome (F .point y (q .0) (q .1))) (map (λ (h : ℕ). (w, h)) (range 0 20))) (λ w. count (λ h. isSome (F .point y w h)) (range 0 20)) (peakDays y)
     (λ w. count-map (λ (q : ℕ × ℕ). isSome (F .point y (q .0) (q .1))) (λ (h : ℕ). (w, h)) (range 0 20))
 
-present-tally : (F : Filing) (y n : ℕ) → (presentPoints F y ≡ n) ↔ Tally (Present F y) (peakPoints y) n
+present-tally : (F : Filing) (y n : ℕ) → (presentPoints F y ≡ n) ↔ CountIs (Present F y) (peakPoints y) n
 present-tally F y n = Iff·trans (λ e. present-pairs F y ∙ e, λ e. sym (present-pairs F y) ∙ e) (of-count (λ (q : ℕ × ℕ). isSome (F .point y (q .0) (q .1))) (λ q. is-there (F .point y (q .0) (q .1))) (peakPoints y) n)
 
 points-length : (y : ℕ) → length (peakPoints y) ≡ 20 * peakCount y
@@ -83,7 +83,7 @@ of-trusted : (k : Kind) → T (isTrusted k) ↔ Trusted k
 of-trusted real = (λ t. inl refl, λ s. tt)
 of-trusted corrected = (λ t. inr refl, λ s. tt)
 of-trusted estimated = (λ t. absurd t, λ s. elim s [ inl e ↦ (let z : _≡_ {A = ℕ} 0 1 = cc in absurd (omega arith)) | inr e ↦ (let z : _≡_ {A = ℕ} 0 1 = cc in absurd (omega arith)) ])
-of-trusted strange = (λ t. absurd t, λ s. elim s [ inl e ↦ (let z : _≡_ {A = ℕ} 0 1 = cc in absurd (omega arith)) | inr e ↦ (let z : _≡_ {A = ℕ} 0 1 = cc in absurd (omega arith)) ])
+of-trusted noKind = (λ t. absurd t, λ s. elim s [ inl e ↦ (let z : _≡_ {A = ℕ} 0 1 = cc in absurd (omega arith)) | inr e ↦ (let z : _≡_ {A = ℕ} 0 1 = cc in absurd (omega arith)) ])
 
 of-winter-day : (F : Filing) (y p : ℕ) → T (hasDate (yearOf F p) (placeAt p)) × T (isWinterDay F y p) ↔ WinterDay F y p
 unfolding isWinterDay hasDate

@@ -1,14 +1,14 @@
 // The numbers by year: P and D dates, breaks and rates.
-use crate::year_range::Tally;
+use crate::year_range::TallyKind;
 use calendar::Years;
-use validity::all_dates;
-use validity::all_winter_dates;
+use calendar::all_dates;
+use calendar::all_winter_dates;
 ghost use mathlib.Core.Path.{_≡_};
 ghost use Prim.Native.Nat.{_≤_, _+_};
 ghost use Rattle.meaning.specs.Record.{eachYear};
 ghost use Rattle.progress.specs.YearRanges.{rateFits, yearNumberFits, placeNumberFits};
 
-// None, or 10 to 1000 thousandths.
+// No rate, or 10 to 1000 thousandths.
 fn rate_fits(rate: u64) -> bool
     ensures { λ r. ⌜ r ≡ rateFits rate ⌝ }
 {
@@ -21,19 +21,19 @@ fn rate_fits(rate: u64) -> bool
     rate <= 1000
 }
 
-fn year_number_fits(what: Tally, year: u64, n: u64) -> bool
+fn year_number_fits(what: TallyKind, year: u64, n: u64) -> bool
     ensures { λ r. ⌜ r ≡ yearNumberFits what year n ⌝ }
 {
     match what {
-        Tally::ProfileDates => n <= all_winter_dates(year),
-        Tally::DailyDates => n <= all_dates(year),
-        Tally::Breaks => n <= 1,
-        Tally::Rates => rate_fits(n),
+        TallyKind::ProfileDates => n <= all_winter_dates(year),
+        TallyKind::DailyDates => n <= all_dates(year),
+        TallyKind::Breaks => n <= 1,
+        TallyKind::Rates => rate_fits(n),
     }
 }
 
-// The number at a place of a tally, from the first year of the span on. 0 fits everywhere, and most are 0.
-fn place_number_fits(span: Years, what: Tally, k: usize, n: u64) -> bool
+// Whether the number at a place, counted from the first year of the span, is in its range. 0 is in every range, and most numbers are 0.
+fn place_number_fits(span: Years, what: TallyKind, k: usize, n: u64) -> bool
     requires { ⌜ span .first + span .count ≤ 9999 ⌝ }
     ensures { λ r. ⌜ r ≡ placeNumberFits span what k n ⌝ }
 {
@@ -47,8 +47,8 @@ fn place_number_fits(span: Years, what: Tally, k: usize, n: u64) -> bool
     year_number_fits(what, span.first + row, n)
 }
 
-// Each year's number in its range, and 0 for years that the file does not have.
-pub(crate) fn each_year(span: Years, what: Tally, ns: &[u64]) -> bool
+// Whether each year's number is in its range, and 0 for years that the file does not have.
+pub(crate) fn each_year(span: Years, what: TallyKind, ns: &[u64]) -> bool
     requires { ⌜ span .first + span .count ≤ 9999 ⌝ }
     ensures { λ r. ⌜ r ≡ eachYear span (yearNumberFits what) (now (ns .entry)) ⌝ }
 {

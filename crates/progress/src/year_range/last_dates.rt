@@ -22,7 +22,7 @@ fn is_winter_place(place: usize) -> bool
     }
 }
 
-// None, or a date of the span; a winter date where the tag takes no other.
+// No date, or a date of the span; a winter date where the tag takes no other.
 pub(crate) fn date_fits(span: Years, winter: bool, date: u64) -> bool
     ensures { λ r. ⌜ r ≡ dateFits span winter date ⌝ }
 {

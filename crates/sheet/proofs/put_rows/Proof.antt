@@ -5,8 +5,8 @@ use Prim.Native.Nat.{_+_, _-_, _*_, _≤_}
 use lib.ListN.{length, take}
 use Rattle.sheet.specs.Put.{Put}
 use Rattle.sheet.proofs.Chains.{put-length, put-then}
-use Rattle.close.specs.FileTold.{noYear}
-use Rattle.sheet.specs.Shown.{rowsText}
+use Rattle.close.specs.FileOutcomes.{noYear}
+use Rattle.sheet.specs.SheetTexts.{rowsText}
 use Rattle.sheet.proofs.Rows.{put-none, rows-none, rows-next, rows-all}
 use Rattle.sheet.proofs.put_rows.Statement.{statement}
 use Rattle.sheet.proofs.put_rows.Tie as tie

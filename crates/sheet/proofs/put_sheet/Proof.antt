@@ -1,6 +1,6 @@
 use native.Mathlib.Omega.{arith}
 use Rattle.sheet.proofs.Chains.{put-length, put-then}
-use Rattle.sheet.specs.Shown.{sheetText}
+use Rattle.sheet.specs.SheetTexts.{sheetText}
 use Rattle.sheet.proofs.Rows.{level-put}
 use borrow.Author.Needs.{needs}
 use Rattle.sheet.proofs.put_sheet.Statement.{statement}

@@ -1,4 +1,4 @@
-// Whether the index of a history year is valid: no break, readings around it, and both ends trusted where an interval has one of its winter days.
+// Whether the index of a history year is valid: no break, readings that cover it, and both ends R or C for each interval with one of its winter days.
 ghost use mathlib.Core.Path.{_≡_};
 ghost use Prim.Native.Nat.{_+_, _-_, _<_, _≤_};
 ghost use lib.ListN.{length};
@@ -11,10 +11,10 @@ fn covers_year(positions: &[u32], n: usize, s: usize) -> bool
     if n == 0 {
         return false;
     }
-    if s < crate::columns::place(positions, 0) {
+    if s < crate::columns::position_of(positions, 0) {
         return false;
     }
-    s + 366 <= crate::columns::place(positions, n - 1)
+    s + 366 <= crate::columns::position_of(positions, n - 1)
 }
 
 fn is_sound(positions: &[u32], kinds: &[u8], s: usize, i: usize) -> bool
@@ -45,7 +45,7 @@ fn is_sound_year(positions: &[u32], kinds: &[u8], n: usize, s: usize) -> bool
     true
 }
 
-// Of the k-th history year, from 0.
+// Whether the index of the k-th history year, from 0, is valid.
 pub fn index_valid(positions: &[u32], kinds: &[u8], n: usize, k: usize, broken: bool) -> bool
     requires { ⌜ (n ≤ length (now positions)) × (n ≤ length (now kinds)) × (k < 10) ⌝ }
     ensures { λ r. ⌜ r ≡ validIndex (now (positions .entry)) (now (kinds .entry)) n k broken ⌝ }

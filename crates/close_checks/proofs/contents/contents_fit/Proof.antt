@@ -7,7 +7,7 @@ use Rattle.close_checks.specs.Contents.{contentsIn}
 use Rattle.close_checks.proofs.contents.contents_fit.Statement.{statement}
 use Rattle.close_checks.proofs.contents.contents_fit.Tie as tie
 
--- what the calls before a place have told there
+-- the results of the calls before a place
 near-told : (c : tie.After-points-fit) → let a = c .before .before .before .before .before .before .before .before .before .args in
     c .points-fit .result ≡ pointsFit (a .history) (a .al - 9) (a .near .now)
 near-told c =

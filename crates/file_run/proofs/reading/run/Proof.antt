@@ -2,20 +2,20 @@ use mathlib.Core.Path.{_≡_, refl, sym, _∙_}
 use native.Mathlib.Omega.{arith}
 use borrow.Author.Needs.{needs}
 use lib.ListN.{length}
-use Rattle.readings.specs.Readings.{seen}
-use Rattle.readings.specs.Columns.{world}
+use Rattle.readings.specs.Readings.{readingsView}
+use Rattle.readings.specs.Columns.{lentBlocks}
 use Rattle.run.specs.RunViews.{runView}
 use Rattle.file_run.proofs.Fresh.{fresh-sized}
-use Rattle.file_run.proofs.Going.{Going, going-first, going-next, fewer, hands-out}
+use Rattle.file_run.proofs.ReadLoop.{Going, going-first, going-next, fewer, hands-out}
 use Rattle.file_run.proofs.reading.run.Statement.{statement}
 use Rattle.file_run.proofs.reading.run.Tie as tie
 use Rattle.file_run.proofs.reading.run.Reads as reads
 use Rattle.file_run.proofs.reading.run.Lts as lts
-use Rattle.pieces.proofs.is_answered.Reads as is-answered-reads
-use Rattle.file_run.proofs.ends.after.Reads as after-reads
-use Rattle.file_run.proofs.ends.told.Reads as told-reads
+use Rattle.pieces.proofs.is_final.Reads as is-final-reads
+use Rattle.file_run.proofs.ends.read_state_after.Reads as read-state-after-reads
+use Rattle.file_run.proofs.ends.file_result.Reads as file-result-reads
 use Rattle.run.proofs.begin.Reads as begin-reads
-use Rattle.file_run.proofs.reading.go_on.Reads as go-on-reads
+use Rattle.file_run.proofs.reading.feed_piece.Reads as feed-piece-reads
 use Rattle.io.proofs.count.Reads as count-reads
 use Rattle.io.proofs.large_buffer.Reads as large-buffer-reads
 use Rattle.libc.proofs.read.Reads as read-reads
@@ -24,7 +24,7 @@ use Rattle.run.proofs.finish.Reads as finish-reads
 abbrev Inv-loop : tie.InvT-loop
 Inv-loop fd near₀ far₀ slots₀ daily₀ curve fed₀ buf₀ turns₀ end₀ near far slots daily fed buf turns end =
     (length near ≡ 15200) × (length far ≡ 15200) × (length slots ≡ 30400) × (length daily ≡ 4392) × (length curve ≡ 4400) × (length buf ≡ 65536)
-    × Going (runView (fed .run) (world near far slots daily (seen (fed .readings)) curve)) turns end
+    × Going (runView (fed .run) (lentBlocks near far slots daily (readingsView (fed .readings)) curve)) turns end
 
 abbrev μ-loop : tie.MeasureT-loop
 μ-loop fd near₀ far₀ slots₀ daily₀ curve fed₀ buf₀ turns₀ end₀ near far slots daily fed buf turns end =
@@ -71,40 +71,40 @@ count-requires c κs = search needs
 array-share-prefix-buf : tie.Need-array-share-prefix-buf Inv-loop μ-loop
 array-share-prefix-buf c = omega (arith, c .count .ensures .0 .0, c .before .before .before .read .kept .1 .0, c .before .before .before .before .before .before .loop .inv .5)
 
-slice-aggregate-go-on : tie.Need-slice-aggregate-go-on Inv-loop μ-loop
-slice-aggregate-go-on c = c .before .count .ensures .0 .1
+slice-aggregate-feed-piece : tie.Need-slice-aggregate-feed-piece Inv-loop μ-loop
+slice-aggregate-feed-piece c = c .before .count .ensures .0 .1
 
-slice-aggregate-go-on-2 : tie.Need-slice-aggregate-go-on-2 Inv-loop μ-loop
-slice-aggregate-go-on-2 c = sym (c .before .before .before .before .before .before .before .before .loop .inv .0)
+slice-aggregate-feed-piece-2 : tie.Need-slice-aggregate-feed-piece-2 Inv-loop μ-loop
+slice-aggregate-feed-piece-2 c = sym (c .before .before .before .before .before .before .before .before .loop .inv .0)
 
-slice-aggregate-go-on-3 : tie.Need-slice-aggregate-go-on-3 Inv-loop μ-loop
-slice-aggregate-go-on-3 c = sym (c .before .before .before .before .before .before .before .before .before .loop .inv .1)
+slice-aggregate-feed-piece-3 : tie.Need-slice-aggregate-feed-piece-3 Inv-loop μ-loop
+slice-aggregate-feed-piece-3 c = sym (c .before .before .before .before .before .before .before .before .before .loop .inv .1)
 
-slice-aggregate-go-on-4 : tie.Need-slice-aggregate-go-on-4 Inv-loop μ-loop
-slice-aggregate-go-on-4 c = sym (c .before .before .before .before .before .before .before .before .before .before .loop .inv .2)
+slice-aggregate-feed-piece-4 : tie.Need-slice-aggregate-feed-piece-4 Inv-loop μ-loop
+slice-aggregate-feed-piece-4 c = sym (c .before .before .before .before .before .before .before .before .before .before .loop .inv .2)
 
-slice-aggregate-go-on-5 : tie.Need-slice-aggregate-go-on-5 Inv-loop μ-loop
-slice-aggregate-go-on-5 c = sym (c .before .before .before .before .before .before .before .before .before .before .before .loop .inv .3)
+slice-aggregate-feed-piece-5 : tie.Need-slice-aggregate-feed-piece-5 Inv-loop μ-loop
+slice-aggregate-feed-piece-5 c = sym (c .before .before .before .before .before .before .before .before .before .before .before .loop .inv .3)
 
-slice-aggregate-go-on-6 : tie.Need-slice-aggregate-go-on-6 Inv-loop μ-loop
-slice-aggregate-go-on-6 c = sym (c .before .before .before .before .before .before .before .before .before .before .before .before .loop .inv .4)
+slice-aggregate-feed-piece-6 : tie.Need-slice-aggregate-feed-piece-6 Inv-loop μ-loop
+slice-aggregate-feed-piece-6 c = sym (c .before .before .before .before .before .before .before .before .before .before .before .before .loop .inv .4)
 
-go-on-requires : tie.Need-go-on-requires Inv-loop μ-loop
-go-on-requires c κs = search needs
+feed-piece-requires : tie.Need-feed-piece-requires Inv-loop μ-loop
+feed-piece-requires c κs = search needs
 
-is-answered-requires : tie.Need-is-answered-requires Inv-loop μ-loop
-is-answered-requires c κs = search needs
+is-final-requires : tie.Need-is-final-requires Inv-loop μ-loop
+is-final-requires c κs = search needs
 
-after-requires : tie.Need-after-requires Inv-loop μ-loop
-after-requires c κs = c .before .before .before .before .before .before .before .before .before .before .before .before .before .before .before .before .before .before .loop-test .taken
+read-state-after-requires : tie.Need-read-state-after-requires Inv-loop μ-loop
+read-state-after-requires c κs = c .before .before .before .before .before .before .before .before .before .before .before .before .before .before .before .before .before .before .loop-test .taken
 
 loop-less : tie.Need-loop-less Inv-loop μ-loop
-loop-less c = fewer _ _ _ _ _ (c .before .before .before .before .before .before .before .before .before .before .before .before .before .before .before .before .before .before .before .loop-test .taken) (c .after .ensures)
+loop-less c = fewer _ _ _ _ _ (c .before .before .before .before .before .before .before .before .before .before .before .before .before .before .before .before .before .before .before .loop-test .taken) (c .read-state-after .ensures)
 
 loop-again : tie.Need-loop-again Inv-loop μ-loop
 loop-again c =
     let l = c .before .before .before .before .before .before .before .before .before .before .before .before .before .before .before .before .before .before .before .before .loop in
-    let f = c .before .before .before .before .before .before .before .go-on in
+    let f = c .before .before .before .before .before .before .before .feed-piece in
     let n = c .before .before .before .before .before .before .before .before .before .before .before .before .before .before .count in (
       f .kept .1 .1 .0 ∙ l .inv .0,
       f .kept .1 .1 .1 .0 ∙ l .inv .1,
@@ -112,7 +112,7 @@ loop-again c =
       f .kept .1 .1 .1 .1 .1 .0 ∙ l .inv .3,
       l .inv .4,
       c .before .before .before .before .before .before .before .before .before .before .before .before .before .before .before .before .before .read .kept .1 .0 ∙ l .inv .5,
-      going-next (runView (l .fed .run) (world (l .near) (l .far) (l .slots) (l .daily) (seen (l .fed .readings)) _)) _ (l .turns) (n .result) _ _ (f .ensures) (n .ensures .0 .1) (c .before .is-answered .ensures) (c .before .before .before .before .before .before .before .before .before .before .before .before .before .before .before .before .before .before .before .loop-test .taken) (l .end) _ _ (c .after .ensures) (l .inv .6),
+      going-next (runView (l .fed .run) (lentBlocks (l .near) (l .far) (l .slots) (l .daily) (readingsView (l .fed .readings)) _)) _ (l .turns) (n .result) _ _ (f .ensures) (n .ensures .0 .1) (c .before .is-final .ensures) (c .before .before .before .before .before .before .before .before .before .before .before .before .before .before .before .before .before .before .before .loop-test .taken) (l .end) _ _ (c .read-state-after .ensures) (l .inv .6),
     )
 
 slice-aggregate-finish : tie.Need-slice-aggregate-finish Inv-loop μ-loop
@@ -133,13 +133,13 @@ slice-aggregate-finish-5 c = sym (c .before .before .before .before .before .bef
 finish-requires : tie.Need-finish-requires Inv-loop μ-loop
 finish-requires c κs = search needs
 
-told-requires : tie.Need-told-requires Inv-loop μ-loop
-told-requires c κs = search needs
+file-result-requires : tie.Need-file-result-requires Inv-loop μ-loop
+file-result-requires c κs = search needs
 
 returns : tie.Need-returns Inv-loop μ-loop
 returns c =
     let l = c .before .before .before .before .before .before .before .before .before .before .before .before .before .before .before .before .loop in
-    let t = c .told .ensures in
+    let t = c .file-result .ensures in
     rw (t .end) (hands-out _ (l .turns) (l .end) _ _ _ _ _ (omega (arith, c .before .before .before .before .before .before .before .before .before .before .before .before .before .before .before .loop-test .left)) (l .inv .6) (c .before .before .before .before .before .before .before .finish .ensures .1) (t .text))
 
 pub run-spec : {M : Type 1} → statement M
@@ -161,15 +161,15 @@ run-spec =
     slice-aggregate-count
     count-requires
     array-share-prefix-buf
-    slice-aggregate-go-on
-    slice-aggregate-go-on-2
-    slice-aggregate-go-on-3
-    slice-aggregate-go-on-4
-    slice-aggregate-go-on-5
-    slice-aggregate-go-on-6
-    go-on-requires
-    is-answered-requires
-    after-requires
+    slice-aggregate-feed-piece
+    slice-aggregate-feed-piece-2
+    slice-aggregate-feed-piece-3
+    slice-aggregate-feed-piece-4
+    slice-aggregate-feed-piece-5
+    slice-aggregate-feed-piece-6
+    feed-piece-requires
+    is-final-requires
+    read-state-after-requires
     loop-less
     loop-again
     slice-aggregate-finish
@@ -178,5 +178,5 @@ run-spec =
     slice-aggregate-finish-4
     slice-aggregate-finish-5
     finish-requires
-    told-requires
+    file-result-requires
     returns)

@@ -5,7 +5,7 @@ use native.Mathlib.Omega.{arith}
 use lib.ListN.{length, set, length-set}
 use lib.Seq.{sets}
 use Rattle.lists.specs.Lists.{tab}
-use Rattle.lists.proofs.Turns.{set-on, set-end}
+use Rattle.lists.proofs.FilledTables.{set-on, set-end}
 use Rattle.note.specs.Coefficients.{caOf}
 use Rattle.history.specs.Years.{casFrom}
 use Rattle.history.proofs.ca.cas_from.Statement.{statement}

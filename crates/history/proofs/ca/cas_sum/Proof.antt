@@ -5,7 +5,7 @@ use borrow.Author.Needs.{needs}
 use native.Mathlib.Omega.{arith}
 use lib.ListN.{getD}
 use Rattle.lists.specs.Lists.{tab, sum as List·sum}
-use Rattle.lists.proofs.Turns.{tab-on, tab-end}
+use Rattle.lists.proofs.FilledTables.{tab-on, tab-end}
 use Rattle.history.specs.Years.{casSum}
 use Rattle.history.proofs.ca.cas_sum.Statement.{statement}
 use Rattle.history.proofs.ca.cas_sum.Tie as tie

@@ -6,7 +6,7 @@ use native.Mathlib.Omega.{arith}
 use lib.ListN.{length, getD, set, length-set}
 use lib.Seq.{sets}
 use Rattle.lists.specs.Lists.{tab}
-use Rattle.lists.proofs.Turns.{set-on, set-end}
+use Rattle.lists.proofs.FilledTables.{set-on, set-end}
 use Rattle.calendar.specs.Places.{dateOfWinter}
 use Rattle.history.specs.Years.{onDay, positionIn}
 use Rattle.history.proofs.winter_days.on_day.Statement.{statement}

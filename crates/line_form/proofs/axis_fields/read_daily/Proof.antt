@@ -12,8 +12,8 @@ is-number-requires c κs = search needs
 is-dated-requires : tie.Need-is-dated-requires
 is-dated-requires c κs = search needs
 
-both-requires : tie.Need-both-requires
-both-requires c κs = search needs
+and-requires : tie.Need-and-requires
+and-requires c κs = search needs
 
 element-copy-out-t12 : tie.Need-element-copy-out-t12
 element-copy-out-t12 c = search needs
@@ -29,10 +29,9 @@ element-copy-out-t21 c = search needs
 
 returns : tie.Need-returns
 returns c =
-    let b4 = c .before .before .before .before in
-    let b5 = b4 .before in
-    let b6 = b5 .before in
-    λ l w. daily-read (b6 .before .before .args .t1) l w _ _ _ (b6 .is-number .ensures) (b5 .is-dated .ensures l w) (b4 .both .ensures)
+    let b1 = c .before in
+    let b2 = b1 .before in
+    λ l w. daily-read (b2 .before .before .args .t1) l w _ _ _ _ (b2 .is-number .ensures) (b1 .is-dated .ensures l w) (c .and .ensures)
 
 pub read-daily-spec : {M : Type 1} → statement M
 read-daily-spec =
@@ -41,7 +40,7 @@ read-daily-spec =
     element-copy-out-is-number
     is-number-requires
     is-dated-requires
-    both-requires
+    and-requires
     element-copy-out-t12
     element-copy-out-t15
     element-copy-out-t18

@@ -21,11 +21,11 @@ element-copy-out-is-number-3 c = search needs
 is-number-requires-3 : tie.Need-is-number-requires-3
 is-number-requires-3 c κs = search needs
 
-both-requires : tie.Need-both-requires
-both-requires c κs = search needs
+and-requires : tie.Need-and-requires
+and-requires c κs = search needs
 
-both-requires-2 : tie.Need-both-requires-2
-both-requires-2 c κs = search needs
+and-requires-2 : tie.Need-and-requires-2
+and-requires-2 c κs = search needs
 
 returns : tie.Need-returns
 returns c =
@@ -33,7 +33,7 @@ returns c =
     let b2 = b1 .before in
     let b4 = b2 .before .before in
     let b6 = b4 .before .before in
-    λ l w. date-read (b6 .before .before .args .t1) l w _ _ _ _ _ (b6 .is-number .ensures) (b4 .is-number2 .ensures) (b2 .is-number3 .ensures) (b1 .both .ensures) (c .both2 .ensures)
+    λ l w. date-read (b6 .before .before .args .t1) l w _ _ _ _ _ _ (b6 .is-number .ensures) (b4 .is-number2 .ensures) (b2 .is-number3 .ensures) (b1 .and .ensures) (c .and2 .ensures)
 
 pub is-dated-spec : {M : Type 1} → statement M
 is-dated-spec =
@@ -45,6 +45,6 @@ is-dated-spec =
     is-number-requires-2
     element-copy-out-is-number-3
     is-number-requires-3
-    both-requires
-    both-requires-2
+    and-requires
+    and-requires-2
     returns)

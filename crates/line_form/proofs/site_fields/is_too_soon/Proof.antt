@@ -3,12 +3,12 @@ use Rattle.meaning.specs.Refusals.{isTooSoon}
 use Rattle.line_form.proofs.site_fields.is_too_soon.Statement.{statement}
 use Rattle.line_form.proofs.site_fields.is_too_soon.Tie as tie
 
-both-requires : tie.Need-both-requires
-both-requires c κs = search needs
+and-requires : tie.Need-and-requires
+and-requires c κs = search needs
 
 returns : tie.Need-returns
 unfolding isTooSoon
-returns c = c .both .ensures
+returns c = c .and .ensures
 
 pub is-too-soon-spec : {M : Type 1} → statement M
-is-too-soon-spec = tie.close (tie.spec both-requires returns)
+is-too-soon-spec = tie.close (tie.spec and-requires returns)

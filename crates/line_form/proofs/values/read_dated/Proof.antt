@@ -9,8 +9,8 @@ read-row-requires c κs = search needs
 is-dated-requires : tie.Need-is-dated-requires
 is-dated-requires c κs = search needs
 
-both-requires : tie.Need-both-requires
-both-requires c κs = search needs
+and-requires : tie.Need-and-requires
+and-requires c κs = search needs
 
 element-copy-out-t12 : tie.Need-element-copy-out-t12
 element-copy-out-t12 c = search needs
@@ -23,11 +23,10 @@ element-copy-out-t18 c = search needs
 
 returns : tie.Need-returns
 returns c =
-    let b3 = c .before .before .before in
-    let b4 = b3 .before in
-    let b6 = b4 .before .before in
-    let a = b6 .before .args in
-    λ l w. (dated-read (a .dashes) (a .t1) l w _ _ _ (b6 .read-row .ensures l w) (b4 .is-dated .ensures l w) (b3 .both .ensures), codes-read (a .dashes) l _ (b6 .read-row .ensures l w))
+    let b1 = c .before in
+    let b3 = b1 .before .before in
+    let a = b3 .before .args in
+    λ l w. (dated-read (a .dashes) (a .t1) l w _ _ _ _ (b3 .read-row .ensures l w) (b1 .is-dated .ensures l w) (c .and .ensures), codes-read (a .dashes) l _ (b3 .read-row .ensures l w))
 
 pub read-dated-spec : {M : Type 1} → statement M
 read-dated-spec =
@@ -35,7 +34,7 @@ read-dated-spec =
     (tie.spec
     read-row-requires
     is-dated-requires
-    both-requires
+    and-requires
     element-copy-out-t12
     element-copy-out-t15
     element-copy-out-t18

@@ -6,7 +6,7 @@ use lib.ListN.{length, take, replicate, length-set}
 use Rattle.lists.specs.Lists.{tab}
 use Rattle.text.specs.Fields.{restAt}
 use Rattle.meaning.specs.Line.{someField}
-use Rattle.line_form.specs.Fields.{Of}
+use Rattle.line_form.specs.Fields.{EachLine}
 use Rattle.line_form.specs.Reads.{inForms}
 use Rattle.line_form.specs.Rows.{rowForm}
 use Rattle.line_form.proofs.Rows.{codesOf, code-here, value-here, codes-on, formed-on, row-read}
@@ -15,7 +15,7 @@ use Rattle.line_form.proofs.values.read_row.Tie as tie
 
 abbrev Inv-loop : tie.InvT-loop
 Inv-loop dashes told codes₀ formed₀ k₀ codes formed k =
-    (k ≤ 20) × ((length codes ≡ 20) × Of told (λ l. (take k codes ≡ codesOf dashes l k) × (formed ≡ inForms (replicate k (rowForm dashes)) (restAt l 4))))
+    (k ≤ 20) × ((length codes ≡ 20) × EachLine told (λ l. (take k codes ≡ codesOf dashes l k) × (formed ≡ inForms (replicate k (rowForm dashes)) (restAt l 4))))
 
 abbrev μ-loop : tie.MeasureT-loop
 μ-loop dashes told codes₀ formed₀ k₀ codes formed k = 20 - k
@@ -27,17 +27,17 @@ loop-holds c = (omega arith, (refl, λ l w. (refl, refl)))
 add-i : tie.Need-add-i Inv-loop μ-loop
 add-i c = search needs
 
-element-copy-out-shape : tie.Need-element-copy-out-shape Inv-loop μ-loop
-element-copy-out-shape c = search needs
+mul-field : tie.Need-mul-field Inv-loop μ-loop
+mul-field c = search needs
 
-both-requires : tie.Need-both-requires Inv-loop μ-loop
-both-requires c κs = search needs
+element-copy-out-field : tie.Need-element-copy-out-field Inv-loop μ-loop
+element-copy-out-field c = search needs
 
-mul-code-of : tie.Need-mul-code-of Inv-loop μ-loop
-mul-code-of c = search needs
+byte-of-requires : tie.Need-byte-of-requires Inv-loop μ-loop
+byte-of-requires c κs = search needs
 
-element-copy-out-code-of : tie.Need-element-copy-out-code-of Inv-loop μ-loop
-element-copy-out-code-of c = search needs
+and-requires : tie.Need-and-requires Inv-loop μ-loop
+and-requires c κs = search needs
 
 code-of-requires : tie.Need-code-of-requires Inv-loop μ-loop
 code-of-requires c κs = search needs
@@ -54,8 +54,8 @@ is-number-requires c κs = search needs
 is-value-requires : tie.Need-is-value-requires Inv-loop μ-loop
 is-value-requires c κs = search needs
 
-both-requires-2 : tie.Need-both-requires-2 Inv-loop μ-loop
-both-requires-2 c κs = search needs
+and-requires-2 : tie.Need-and-requires-2 Inv-loop μ-loop
+and-requires-2 c κs = search needs
 
 add-k : tie.Need-add-k Inv-loop μ-loop
 add-k c = search needs
@@ -68,7 +68,8 @@ loop-again c =
     let b1 = c .before in
     let b2 = b1 .before in
     let b3 = b2 .before in
-    let b5 = b3 .before .before in
+    let b4 = b3 .before in
+    let b5 = b4 .before in
     let b8 = b5 .before .before .before in
     let a = b8 .before .args in
     let k = b8 .loop .k in
@@ -79,8 +80,8 @@ loop-again c =
       (
         length-set (b8 .loop .codes) k _ ∙ inv .1 .0,
         λ l w. (
-          codes-on (a .dashes) (b8 .loop .codes) k l _ (omega arith) (said l w .0) (code-here (a .dashes) (a .t1) l w k _ h refl _ (b5 .both .ensures) _ (b3 .code-of .ensures)),
-          c .both2 .ensures ∙ formed-on (a .dashes) _ _ k l (said l w .1) (value-here (a .dashes) (a .t1) l w k _ h refl _ (b5 .both .ensures) _ _ (b2 .is-number .ensures) (b1 .is-value .ensures)),
+          codes-on (a .dashes) (b8 .loop .codes) k l _ (omega arith) (said l w .0) (code-here (a .dashes) (a .t1) l w k _ _ h refl _ (b5 .byte-of .ensures) _ (b4 .and .ensures) _ (b3 .code-of .ensures)),
+          c .and2 .ensures ∙ formed-on (a .dashes) _ _ k l (said l w .1) (value-here (a .dashes) (a .t1) l w k _ _ h refl _ (b5 .byte-of .ensures) _ (b4 .and .ensures) _ _ (b2 .is-number .ensures) (b1 .is-value .ensures)),
         ),
       ),
     )
@@ -100,16 +101,14 @@ read-row-spec =
     μ-loop
     loop-holds
     add-i
-    element-copy-out-shape
-    both-requires
-    mul-code-of
-    element-copy-out-code-of
+    mul-field element-copy-out-field byte-of-requires
+    and-requires
     code-of-requires
     mul-codes
     array-write-codes
     is-number-requires
     is-value-requires
-    both-requires-2
+    and-requires-2
     add-k
     loop-less
     loop-again

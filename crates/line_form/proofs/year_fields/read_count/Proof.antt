@@ -13,9 +13,7 @@ element-copy-out-t9 : tie.Need-element-copy-out-t9
 element-copy-out-t9 c = search needs
 
 returns : tie.Need-returns
-returns c =
-    let b1 = c .before in
-    λ l w. count-read (b1 .before .before .args .t1) l w _ (b1 .is-number .ensures)
+returns c = λ l w. count-read (c .before .before .args .t1) l w _ _ (c .is-number .ensures)
 
 pub read-count-spec : {M : Type 1} → statement M
 read-count-spec =

@@ -15,8 +15,8 @@ element-copy-out-is-number-2 c = search needs
 is-number-requires-2 : tie.Need-is-number-requires-2
 is-number-requires-2 c κs = search needs
 
-both-requires : tie.Need-both-requires
-both-requires c κs = search needs
+and-requires : tie.Need-and-requires
+and-requires c κs = search needs
 
 element-copy-out-t13 : tie.Need-element-copy-out-t13
 element-copy-out-t13 c = search needs
@@ -26,10 +26,9 @@ element-copy-out-t16 c = search needs
 
 returns : tie.Need-returns
 returns c =
-    let b2 = c .before .before in
-    let b3 = b2 .before in
-    let b5 = b3 .before .before in
-    λ l w. rate-read (b5 .before .before .args .t1) l w _ _ _ (b5 .is-number .ensures) (b3 .is-number2 .ensures) (b2 .both .ensures)
+    let b1 = c .before in
+    let b3 = b1 .before .before in
+    λ l w. rate-read (b3 .before .before .args .t1) l w _ _ _ _ (b3 .is-number .ensures) (b1 .is-number2 .ensures) (c .and .ensures)
 
 pub read-rate-spec : {M : Type 1} → statement M
 read-rate-spec =
@@ -39,7 +38,7 @@ read-rate-spec =
     is-number-requires
     element-copy-out-is-number-2
     is-number-requires-2
-    both-requires
+    and-requires
     element-copy-out-t13
     element-copy-out-t16
     returns)

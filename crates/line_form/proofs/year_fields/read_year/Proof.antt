@@ -14,7 +14,7 @@ is-number-requires c κs = search needs
 
 returns : tie.Need-returns
 returns c =
-    λ l w. year-read (c .before .before .before .args .t1) l w _ (c .is-number .ensures)
+    λ l w. year-read (c .before .before .args .t1) l w _ _ (c .is-number .ensures)
 
 pub read-year-spec : {M : Type 1} → statement M
 read-year-spec =

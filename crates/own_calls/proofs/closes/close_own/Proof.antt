@@ -41,26 +41,26 @@ use denote.Triple.Table.{entered, cited}
 use denote.Triple.Walked.{says, Stays, gave-slice, stay-none, stay-none-slice, walkOf, goes-gave-slice, goes-none, goes-none-slice, Walks, ends-at, walked, walk-meets}
 use denote.Exit.{yes}
 use denote.Struct.Laws as LL
-use Rattle.readings.specs.Readings.{seen}
-use Rattle.readings.specs.Columns.{world}
+use Rattle.readings.specs.Readings.{readingsView}
+use Rattle.readings.specs.Columns.{lentBlocks}
 use Rattle.meaning.specs.Calls.{closeOf}
-use Rattle.close.specs.Ends.{handed}
-use Rattle.site.specs.Views.{view, closesBack}
-use Rattle.readings.proofs.Lends.{Lent-shared, lends-shared, gives-back-shared}
-use Rattle.site.specs.declared.Record.{Record}
+use Rattle.close.specs.Ends.{closeRepr}
+use Rattle.record_calls.specs.Views.{view, closeView}
+use Rattle.readings.proofs.LentArrays.{Lent-shared, lends-shared, gives-back-shared}
+use Rattle.record_calls.specs.declared.Record.{Record}
 use Rattle.readings.specs.declared.Reading.{Reading}
-use Rattle.site.specs.declared.Closed.{Closed}
-use Rattle.site.proofs.Record as T
-use Rattle.site.proofs.Record.Laws as T′
+use Rattle.record_calls.specs.declared.CloseResult.{CloseResult}
+use Rattle.record_calls.proofs.Record as T
+use Rattle.record_calls.proofs.Record.Laws as T′
 use Rattle.readings.proofs.Reading as R
 use Rattle.readings.proofs.Reading.Laws as R′
-use Rattle.site.proofs.Closed as K
-use Rattle.site.proofs.Closed.Laws as K′
-use Rattle.readings.proofs.Gone.{full, gone}
-use Rattle.site.proofs.Record.close as closes
-use Rattle.site.proofs.Record.close.Symbol as closes-def
-use Rattle.site.proofs.Record.close.Symbol.{name as #site·Record·close}
-use Rattle.site.proofs.Record.close.Met as closes-thm
+use Rattle.record_calls.proofs.CloseResult as K
+use Rattle.record_calls.proofs.CloseResult.Laws as K′
+use Rattle.readings.proofs.WalkEnds.{full, gone}
+use Rattle.record_calls.proofs.Record.close as closes
+use Rattle.record_calls.proofs.Record.close.Symbol as closes-def
+use Rattle.record_calls.proofs.Record.close.Symbol.{name as #record-calls·Record·close}
+use Rattle.record_calls.proofs.Record.close.Met as closes-thm
 use Rattle.own_calls.proofs.closes.close_own.Key.{name as #own-calls·closes·close-own}
 use Rattle.own_calls.proofs.closes.close_own as f
 use Rattle.own_calls.proofs.closes.close_own.Statement as stated
@@ -146,7 +146,7 @@ module _ {M : Type 1} (𝓤 : URA M) (H : Heap 𝓤) (A : Atoms 𝓤) (W : Given
   goes-closes l₈ ν γ =
       qed W (‵ (flft κ₀ q₀) ∷ ‵ (flft κ₁ q₁) ∷ ‵ (flft κ₂ q₂) ∷ ‵ (flft (ν ∷ []) fullShare) ∷ ‵ (flft κ₃ q₃) ∷ ‵ Own-near ∷ ‵ Own-far ∷ ‵ Own-slots ∷ ‵ Own-daily ∷ ‵ (ShrSlice erased (ν ∷ []) R.the-row .own (at-own l₈ γ readings) ((sliceVal (l₈, 0) 600) ∷ [])) ∷ ‵ Own-curve ∷ []) ∵ nothing ! $ move ! (11 ∷ 0 ∷ []) $ fjoin ! $ move ! (10 ∷ 0 ∷ []) $ fjoin ! $ move ! (9 ∷ 0 ∷ []) $ fjoin ! $ move ! (8 ∷ 0 ∷ []) $ fjoin ! $ move ! (7 ∷ 0 ∷ []) $ fjoin ! $ move ! (6 ∷ 0 ∷ []) $ fjoin ! $ owned ! T.the-row (Is T.the-row) (LL.makes T.the-type T′.the-plain 𝓤 H A) (rec) _ rec-is $ fjoin ! $ nothing ! $ move ! (6 ∷ 0 ∷ []) $ join ! $ move ! (5 ∷ 0 ∷ []) $ join ! $ move ! (4 ∷ 0 ∷ []) $ join ! $ move ! (3 ∷ 0 ∷ []) $ join ! $ move ! (2 ∷ 0 ∷ []) $ join ! $ join ! $ frame ! $ done !
 
-  exits : (r : Closed) (w : Val) (curve′ : List ℕ) → Is K.the-row r (w ∷ []) → closesBack r (world (near .now) (far .now) (slots .now) (daily .now) (seen readings) curve′) ≡ handed (closeOf (view rec) (world (near .now) (far .now) (slots .now) (daily .now) (seen readings) (curve .now))) → length curve′ ≡ length (curve .now)
+  exits : (r : CloseResult) (w : Val) (curve′ : List ℕ) → Is K.the-row r (w ∷ []) → closeView r (lentBlocks (near .now) (far .now) (slots .now) (daily .now) (readingsView readings) curve′) ≡ closeRepr (closeOf (view rec) (lentBlocks (near .now) (far .now) (slots .now) (daily .now) (readingsView readings) (curve .now))) → length curve′ ≡ length (curve .now)
       → ent 𝓤 (⋆ 𝓤 H A (‵ (flft κ₀ q₀) ∷ ‵ (flft κ₁ q₁) ∷ ‵ (flft κ₂ q₂) ∷ ‵ (flft κ₃ q₃) ∷ ‵ (finally u64 (curve .name) curve′) ∷ ‵ Own-near ∷ ‵ Own-far ∷ ‵ Own-slots ∷ ‵ Own-daily ∷ [])) (Post w)
   exits r w curve′ is e l-curve =
       qed W (‵ (flft κ₀ q₀) ∷ ‵ (flft κ₁ q₁) ∷ ‵ (flft κ₂ q₂) ∷ ‵ (flft κ₃ q₃) ∷ ‵ (finally u64 (curve .name) curve′) ∷ ‵ Own-near ∷ ‵ Own-far ∷ ‵ Own-slots ∷ ‵ Own-daily ∷ []) ∵
@@ -159,14 +159,14 @@ module _ {M : Type 1} (𝓤 : URA M) (H : Heap 𝓤) (A : Atoms 𝓤) (W : Given
     En = (tyK, l₀) ∷ (tyT, l₁) ∷ ((sliceTy (tyRef (named 0) imm (tyInt w32))), l₂) ∷ ((sliceTy (tyRef (named 0) imm (tyInt w32))), l₃) ∷ ((sliceTy (tyRef (named 1) imm (tyInt w16))), l₄) ∷ ((sliceTy (tyRef (named 2) imm (tyInt w32))), l₅) ∷ ((tyArray tyR 600), l₆) ∷ ((sliceTy (tyRef (named 3) mut (tyInt w64))), l₇) ∷ ((tyArray tyR 600), l₈) ∷ ((tyRef erased imm (tyArray (pointee (R.the-row .written)) 600)), l₉) ∷ ((sliceTy (tyRef erased imm (pointee (R.the-row .written)))), l₁₀) ∷ ((tyRef erased mut (tyInt w64)), l₁₁) ∷ ((sliceTy (tyRef erased mut (tyInt w64))), l₁₂) ∷ []
 
     -- the locals at the return, in the order in which they are freed
-    left : (r : Closed) (w : Val) (curve′ : List ℕ) → Is K.the-row r (w ∷ []) → closesBack r (world (near .now) (far .now) (slots .now) (daily .now) (seen readings) curve′) ≡ handed (closeOf (view rec) (world (near .now) (far .now) (slots .now) (daily .now) (seen readings) (curve .now))) → length curve′ ≡ length (curve .now)
+    left : (r : CloseResult) (w : Val) (curve′ : List ℕ) → Is K.the-row r (w ∷ []) → closeView r (lentBlocks (near .now) (far .now) (slots .now) (daily .now) (readingsView readings) curve′) ≡ closeRepr (closeOf (view rec) (lentBlocks (near .now) (far .now) (slots .now) (daily .now) (readingsView readings) (curve .now))) → length curve′ ≡ length (curve .now)
         → Sq W (full tyK l₀ w (full tyT l₁ (LL.val T.the-type T′.the-laws rec) (full (sliceTy (tyRef (named 0) imm (tyInt w32))) l₂ v-near (full (sliceTy (tyRef (named 0) imm (tyInt w32))) l₃ v-far (full (sliceTy (tyRef (named 1) imm (tyInt w16))) l₄ v-slots (full (sliceTy (tyRef (named 2) imm (tyInt w32))) l₅ v-daily (full (tyArray tyR 600) l₆ (only (array-vals (LL.vals R.the-type R′.the-laws) readings)) (full (sliceTy (tyRef (named 3) mut (tyInt w64))) l₇ v-curve (full (tyArray tyR 600) l₈ (only (array-vals (LL.vals R.the-type R′.the-laws) readings)) (full (tyRef erased imm (tyArray (pointee (R.the-row .written)) 600)) l₉ (vptr l₈ 0) (full (sliceTy (tyRef erased imm (pointee (R.the-row .written)))) l₁₀ (sliceVal (l₈, 0) 600) (full (tyRef erased mut (tyInt w64)) l₁₁ (vptr (curve .ptr .0) (curve .ptr .1)) (full (sliceTy (tyRef erased mut (tyInt w64))) l₁₂ v-curve (‵ (flft κ₀ q₀) ∷ ‵ (flft κ₁ q₁) ∷ ‵ (flft κ₂ q₂) ∷ ‵ (flft κ₃ q₃) ∷ ‵ (finally u64 (curve .name) curve′) ∷ ‵ Own-near ∷ ‵ Own-far ∷ ‵ Own-slots ∷ ‵ Own-daily ∷ [])))))))))))))) (frees En (prop (Post w)))
     left r w curve′ is e l-curve =
         gone ! $ gone ! $ gone ! $ gone ! $ gone ! $ gone ! $ gone ! $ gone ! $ gone ! $ gone ! $ gone ! $ gone ! $ gone ! $ free0 ! $ by ! (exits r w curve′ is e l-curve)
 
-  module _ (C : Calls 𝓤 H) (Λ : Loops 𝓤 H) (fm : FmC 𝓤 H (W .laws) C) (known-closes : Triple 𝓤 (C #site·Record·close) (Close 𝓤 H A mem run)) where
+  module _ (C : Calls 𝓤 H) (Λ : Loops 𝓤 H) (fm : FmC 𝓤 H (W .laws) C) (known-closes : Triple 𝓤 (C #record-calls·Record·close) (Close 𝓤 H A mem run)) where
     module _ (l₀ l₁ l₂ l₃ l₄ l₅ l₆ l₇ l₈ l₉ l₁₀ l₁₁ l₁₂ : ℕ) where
-      after-closes : (r : Closed) (w : Val) (curve′ : List ℕ) (is : Is K.the-row r (w ∷ [])) (e : closesBack r (world (near .now) (far .now) (slots .now) (daily .now) (seen readings) curve′) ≡ handed (closeOf (view rec) (world (near .now) (far .now) (slots .now) (daily .now) (seen readings) (curve .now)))) (l-curve : length curve′ ≡ length (curve .now)) → Sq W (‵ (fat fullShare (tyArray tyR 600) l₈ 0 (only (array-vals (LL.vals R.the-type R′.the-laws) readings))) ∷ ‵ (flft κ₃ q₃) ∷ ‵ (flft κ₂ q₂) ∷ ‵ (flft κ₁ q₁) ∷ ‵ (flft κ₀ q₀) ∷ ‵ (finally u64 (curve .name) curve′) ∷ ‵ Own-near ∷ ‵ Own-far ∷ ‵ Own-slots ∷ ‵ Own-daily ∷ ‵ (fat fullShare (sliceTy (tyRef erased mut (tyInt w64))) l₁₂ 0 v-curve) ∷ ‵ (fdies (sliceTy (tyRef erased mut (tyInt w64))) l₁₂) ∷ ‵ (fat fullShare (tyRef erased mut (tyInt w64)) l₁₁ 0 (vptr (curve .ptr .0) (curve .ptr .1))) ∷ ‵ (fdies (tyRef erased mut (tyInt w64)) l₁₁) ∷ ‵ (fat fullShare (sliceTy (tyRef erased imm (pointee (R.the-row .written)))) l₁₀ 0 (sliceVal (l₈, 0) 600)) ∷ ‵ (fdies (sliceTy (tyRef erased imm (pointee (R.the-row .written)))) l₁₀) ∷ ‵ (fat fullShare (tyRef erased imm (tyArray (pointee (R.the-row .written)) 600)) l₉ 0 (vptr l₈ 0)) ∷ ‵ (fdies (tyRef erased imm (tyArray (pointee (R.the-row .written)) 600)) l₉) ∷ ‵ (fdies (tyArray tyR 600) l₈) ∷ ‵ (fat fullShare (sliceTy (tyRef (named 3) mut (tyInt w64))) l₇ 0 v-curve) ∷ ‵ (fdies (sliceTy (tyRef (named 3) mut (tyInt w64))) l₇) ∷ ‵ (fat fullShare (tyArray tyR 600) l₆ 0 (only (array-vals (LL.vals R.the-type R′.the-laws) readings))) ∷ ‵ (fdies (tyArray tyR 600) l₆) ∷ ‵ (fat fullShare (sliceTy (tyRef (named 2) imm (tyInt w32))) l₅ 0 v-daily) ∷ ‵ (fdies (sliceTy (tyRef (named 2) imm (tyInt w32))) l₅) ∷ ‵ (fat fullShare (sliceTy (tyRef (named 1) imm (tyInt w16))) l₄ 0 v-slots) ∷ ‵ (fdies (sliceTy (tyRef (named 1) imm (tyInt w16))) l₄) ∷ ‵ (fat fullShare (sliceTy (tyRef (named 0) imm (tyInt w32))) l₃ 0 v-far) ∷ ‵ (fdies (sliceTy (tyRef (named 0) imm (tyInt w32))) l₃) ∷ ‵ (fat fullShare (sliceTy (tyRef (named 0) imm (tyInt w32))) l₂ 0 v-near) ∷ ‵ (fdies (sliceTy (tyRef (named 0) imm (tyInt w32))) l₂) ∷ ‵ (fat fullShare tyT l₁ 0 (LL.val T.the-type T′.the-laws rec)) ∷ ‵ (fdies tyT l₁) ∷ ‵ (fat fullShare tyK l₀ 0 w) ∷ ‵ (fdies tyK l₀) ∷ []) (runs C Λ (En l₀ l₁ l₂ l₃ l₄ l₅ l₆ l₇ l₈ l₉ l₁₀ l₁₁ l₁₂) pieces.t-7 (atRet (En l₀ l₁ l₂ l₃ l₄ l₅ l₆ l₇ l₈ l₉ l₁₀ l₁₁ l₁₂) Post))
+      after-closes : (r : CloseResult) (w : Val) (curve′ : List ℕ) (is : Is K.the-row r (w ∷ [])) (e : closeView r (lentBlocks (near .now) (far .now) (slots .now) (daily .now) (readingsView readings) curve′) ≡ closeRepr (closeOf (view rec) (lentBlocks (near .now) (far .now) (slots .now) (daily .now) (readingsView readings) (curve .now)))) (l-curve : length curve′ ≡ length (curve .now)) → Sq W (‵ (fat fullShare (tyArray tyR 600) l₈ 0 (only (array-vals (LL.vals R.the-type R′.the-laws) readings))) ∷ ‵ (flft κ₃ q₃) ∷ ‵ (flft κ₂ q₂) ∷ ‵ (flft κ₁ q₁) ∷ ‵ (flft κ₀ q₀) ∷ ‵ (finally u64 (curve .name) curve′) ∷ ‵ Own-near ∷ ‵ Own-far ∷ ‵ Own-slots ∷ ‵ Own-daily ∷ ‵ (fat fullShare (sliceTy (tyRef erased mut (tyInt w64))) l₁₂ 0 v-curve) ∷ ‵ (fdies (sliceTy (tyRef erased mut (tyInt w64))) l₁₂) ∷ ‵ (fat fullShare (tyRef erased mut (tyInt w64)) l₁₁ 0 (vptr (curve .ptr .0) (curve .ptr .1))) ∷ ‵ (fdies (tyRef erased mut (tyInt w64)) l₁₁) ∷ ‵ (fat fullShare (sliceTy (tyRef erased imm (pointee (R.the-row .written)))) l₁₀ 0 (sliceVal (l₈, 0) 600)) ∷ ‵ (fdies (sliceTy (tyRef erased imm (pointee (R.the-row .written)))) l₁₀) ∷ ‵ (fat fullShare (tyRef erased imm (tyArray (pointee (R.the-row .written)) 600)) l₉ 0 (vptr l₈ 0)) ∷ ‵ (fdies (tyRef erased imm (tyArray (pointee (R.the-row .written)) 600)) l₉) ∷ ‵ (fdies (tyArray tyR 600) l₈) ∷ ‵ (fat fullShare (sliceTy (tyRef (named 3) mut (tyInt w64))) l₇ 0 v-curve) ∷ ‵ (fdies (sliceTy (tyRef (named 3) mut (tyInt w64))) l₇) ∷ ‵ (fat fullShare (tyArray tyR 600) l₆ 0 (only (array-vals (LL.vals R.the-type R′.the-laws) readings))) ∷ ‵ (fdies (tyArray tyR 600) l₆) ∷ ‵ (fat fullShare (sliceTy (tyRef (named 2) imm (tyInt w32))) l₅ 0 v-daily) ∷ ‵ (fdies (sliceTy (tyRef (named 2) imm (tyInt w32))) l₅) ∷ ‵ (fat fullShare (sliceTy (tyRef (named 1) imm (tyInt w16))) l₄ 0 v-slots) ∷ ‵ (fdies (sliceTy (tyRef (named 1) imm (tyInt w16))) l₄) ∷ ‵ (fat fullShare (sliceTy (tyRef (named 0) imm (tyInt w32))) l₃ 0 v-far) ∷ ‵ (fdies (sliceTy (tyRef (named 0) imm (tyInt w32))) l₃) ∷ ‵ (fat fullShare (sliceTy (tyRef (named 0) imm (tyInt w32))) l₂ 0 v-near) ∷ ‵ (fdies (sliceTy (tyRef (named 0) imm (tyInt w32))) l₂) ∷ ‵ (fat fullShare tyT l₁ 0 (LL.val T.the-type T′.the-laws rec)) ∷ ‵ (fdies tyT l₁) ∷ ‵ (fat fullShare tyK l₀ 0 w) ∷ ‵ (fdies tyK l₀) ∷ []) (runs C Λ (En l₀ l₁ l₂ l₃ l₄ l₅ l₆ l₇ l₈ l₉ l₁₀ l₁₁ l₁₂) pieces.t-7 (atRet (En l₀ l₁ l₂ l₃ l₄ l₅ l₆ l₇ l₈ l₉ l₁₀ l₁₁ l₁₂) Post))
       after-closes r w curve′ is e l-curve =
           returns ! (look ! 33 refl) $ keep ! (33 ∷ 34 ∷ 31 ∷ 32 ∷ 29 ∷ 30 ∷ 27 ∷ 28 ∷ 25 ∷ 26 ∷ 23 ∷ 24 ∷ 21 ∷ 22 ∷ 19 ∷ 20 ∷ 0 ∷ 18 ∷ 16 ∷ 17 ∷ 14 ∷ 15 ∷ 12 ∷ 13 ∷ 10 ∷ 11 ∷ 4 ∷ 3 ∷ 2 ∷ 1 ∷ 5 ∷ 6 ∷ 7 ∷ 8 ∷ 9 ∷ []) $ left l₀ l₁ l₂ l₃ l₄ l₅ l₆ l₇ l₈ l₉ l₁₀ l₁₁ l₁₂ r w curve′ is e l-curve
 
@@ -178,9 +178,9 @@ module _ {M : Type 1} (𝓤 : URA M) (H : Heap 𝓤) (A : Atoms 𝓤) (W : Given
           -- `Record::close`
           move ! (3 ∷ 4 ∷ 5 ∷ 2 ∷ 6 ∷ 8 ∷ 10 ∷ 12 ∷ 14 ∷ 0 ∷ 15 ∷ []) $ group ! 11 $ use1 W (raw (Close 𝓤 H A mem run .pre (to-closes l₈ ν γ))) (goes-closes l₈ ν γ) $
           calls-at ! fm (Close 𝓤 H A mem run) known-closes (to-closes l₈ ν γ) (and-then ! (load ! (from ! (stop !)) (look ! 27 refl)) (and-then ! (load ! (from ! (stop !)) (look ! 25 refl)) (and-then ! (load ! (from ! (stop !)) (look ! 23 refl)) (and-then ! (load ! (from ! (stop !)) (look ! 21 refl)) (and-then ! (load ! (from ! (stop !)) (look ! 19 refl)) (and-then ! (load ! (from ! (stop !)) (look ! 10 refl)) (and-then ! (load ! (from ! (stop !)) (look ! 6 refl)) (no-more !)))))))) (λ w.
-          use1 W (later (some (λ (r : Closed). ((‵ (flft κ₀ q₀) ⊛ ‵ (flft κ₁ q₁) ⊛ ‵ (flft κ₂ q₂) ⊛ ‵ (flft (ν ∷ []) fullShare) ⊛ ‵ (flft κ₃ q₃) ⊛ ‵ ftrue) ⊛ ‵ (K.the-row .own r (w ∷ []))) ⊛ raw (ensured 𝓤 H A closes.ended (closes.clauses 𝓤 H A mem run) (κ₀, (κ₁, (κ₂, ((ν ∷ []), (κ₃, tt))))) (rec, (near, (far, (slots, (daily, ((at-own l₈ γ readings), (curve, tt))))))) tt r)))) (id⊢ 𝓤 _) $ await ! tt $ pick ! (λ r.
-          split ! $ move ! (1 ∷ []) $ use1 W (some (λ (ms : Unit {0} × (Unit {0} × (Unit {0} × (Unit {0} × (Unit {0} × (Unit {0} × (List ℕ × Unit {0}))))))). ‵ (lasts closes.ended (κ₀, (κ₁, (κ₂, ((ν ∷ []), (κ₃, tt))))) (rec, (near, (far, (slots, (daily, ((at-own l₈ γ readings), (curve, tt))))))) ms) ⊛ raw (fact 𝓤 (closesBack r (world (near .now) (far .now) (slots .now) (daily .now) (seen readings) (ms .1 .1 .1 .1 .1 .1 .0)) ≡ handed (closeOf (view rec) (world (near .now) (far .now) (slots .now) (daily .now) (seen readings) (curve .now))))))) (id⊢ 𝓤 _) $ pick ! (λ ms.
-          split ! $ move ! (1 ∷ []) $ heard ! (closesBack r (world (near .now) (far .now) (slots .now) (daily .now) (seen readings) (ms .1 .1 .1 .1 .1 .1 .0)) ≡ handed (closeOf (view rec) (world (near .now) (far .now) (slots .now) (daily .now) (seen readings) (curve .now)))) (λ e. fsplit ! $ drop ! $ fsplit ! $ drop ! $ fsplit ! $ drop ! $ fsplit ! $ drop ! $ fsplit ! $ drop ! $ fsplit ! $ drop ! $ fsplit ! $ fsplit ! $ move ! (1 ∷ []) $ feqL ! (λ l-curve.
+          use1 W (later (some (λ (r : CloseResult). ((‵ (flft κ₀ q₀) ⊛ ‵ (flft κ₁ q₁) ⊛ ‵ (flft κ₂ q₂) ⊛ ‵ (flft (ν ∷ []) fullShare) ⊛ ‵ (flft κ₃ q₃) ⊛ ‵ ftrue) ⊛ ‵ (K.the-row .own r (w ∷ []))) ⊛ raw (ensured 𝓤 H A closes.ended (closes.clauses 𝓤 H A mem run) (κ₀, (κ₁, (κ₂, ((ν ∷ []), (κ₃, tt))))) (rec, (near, (far, (slots, (daily, ((at-own l₈ γ readings), (curve, tt))))))) tt r)))) (id⊢ 𝓤 _) $ await ! tt $ pick ! (λ r.
+          split ! $ move ! (1 ∷ []) $ use1 W (some (λ (ms : Unit {0} × (Unit {0} × (Unit {0} × (Unit {0} × (Unit {0} × (Unit {0} × (List ℕ × Unit {0}))))))). ‵ (lasts closes.ended (κ₀, (κ₁, (κ₂, ((ν ∷ []), (κ₃, tt))))) (rec, (near, (far, (slots, (daily, ((at-own l₈ γ readings), (curve, tt))))))) ms) ⊛ raw (fact 𝓤 (closeView r (lentBlocks (near .now) (far .now) (slots .now) (daily .now) (readingsView readings) (ms .1 .1 .1 .1 .1 .1 .0)) ≡ closeRepr (closeOf (view rec) (lentBlocks (near .now) (far .now) (slots .now) (daily .now) (readingsView readings) (curve .now))))))) (id⊢ 𝓤 _) $ pick ! (λ ms.
+          split ! $ move ! (1 ∷ []) $ heard ! (closeView r (lentBlocks (near .now) (far .now) (slots .now) (daily .now) (readingsView readings) (ms .1 .1 .1 .1 .1 .1 .0)) ≡ closeRepr (closeOf (view rec) (lentBlocks (near .now) (far .now) (slots .now) (daily .now) (readingsView readings) (curve .now)))) (λ e. fsplit ! $ drop ! $ fsplit ! $ drop ! $ fsplit ! $ drop ! $ fsplit ! $ drop ! $ fsplit ! $ drop ! $ fsplit ! $ drop ! $ fsplit ! $ fsplit ! $ move ! (1 ∷ []) $ feqL ! (λ l-curve.
           move ! (1 ∷ []) $ drop ! $ move ! (1 ∷ []) $ split ! $ move ! (1 ∷ []) $ peeks ! K.the-row (Is (K.the-row)) (shows 𝓤 H A (K.the-row)) r (w ∷ []) (λ is. land ! (from ! (stop !)) (init ! 31 refl (LL.lawful K.the-type K′.the-laws 𝓤 H A W .typed r _ is .0)) $ drop ! $ split ! $ move ! (1 ∷ []) $ split ! $ move ! (1 ∷ []) $ split ! $ move ! (1 ∷ []) $ split ! $ move ! (1 ∷ []) $ split ! $ move ! (1 ∷ []) $ drop ! $
           -- and taken back
           move ! (1 ∷ []) $ lft-end ! tt $ move ! (0 ∷ 6 ∷ []) $ use2 W (later (‵ (fat fullShare (tyArray tyR 600) l₈ 0 (only (array-vals (LL.vals R.the-type R′.the-laws) readings))) ⊛ ‵ ((Array R.the-row 600) .own readings (array-vals (LL.vals R.the-type R′.the-laws) readings)))) (gives-back-shared 𝓤 H A W R.the-row 600 (LL.vals R.the-type R′.the-laws) (LL.tells R.the-type R′.the-laws) (ν ∷ []) readings l₈) $ await ! tt $ split ! $ move ! (1 ∷ []) $ peeks ! (Array R.the-row 600) (Is (Array R.the-row 600)) (shows 𝓤 H A (Array R.the-row 600)) readings (array-vals (LL.vals R.the-type R′.the-laws) readings) (λ is-own. drop ! $
@@ -195,7 +195,7 @@ module _ {M : Type 1} (𝓤 : URA M) (H : Heap 𝓤) (A : Atoms 𝓤) (W : Given
         begun l₀ l₁ l₂ l₃ l₄ l₅ l₆ l₇ l₈ l₉ l₁₀ l₁₁ l₁₂)))))))))))))
 
 module _ {M : Type 1} (𝓤 : URA M) (H : Heap 𝓤) (A : Atoms 𝓤) (W : Given 𝓤 H A) (mem : Memory → SProp 𝓤) (run : Routine → Fun 𝓤) where
-  walks : (C : Calls 𝓤 H) (Λ : Loops 𝓤 H) → FmC 𝓤 H (W .laws) C → Triple 𝓤 (C #site·Record·close) (Close 𝓤 H A mem run) → Walks 𝓤 H A f.ended stayed (WpFn 𝓤 H C Λ code.function) (f.clauses 𝓤 H A mem run)
+  walks : (C : Calls 𝓤 H) (Λ : Loops 𝓤 H) → FmC 𝓤 H (W .laws) C → Triple 𝓤 (C #record-calls·Record·close) (Close 𝓤 H A mem run) → Walks 𝓤 H A f.ended stayed (WpFn 𝓤 H C Λ code.function) (f.clauses 𝓤 H A mem run)
   walks C Λ fm known-closes = walked 𝓤 H A f.ended stayed (f.clauses 𝓤 H A mem run) (WpFn 𝓤 H C Λ code.function)
       (λ κs. (LL.vals T.the-type T′.the-laws, (slice-vals, (slice-vals, (slice-vals, (slice-vals, (array-vals (LL.vals R.the-type R′.the-laws), (slice-vals, tt))))))))
       (λ κs. (LL.tells T.the-type T′.the-laws, (shr-slice-tells (named 0) (κs .0) u32, (shr-slice-tells (named 0) (κs .0) u32, (shr-slice-tells (named 1) (κs .1 .0) u16, (shr-slice-tells (named 2) (κs .1 .1 .0) u32, (array-tells R.the-row (LL.vals R.the-type R′.the-laws) (LL.tells R.the-type R′.the-laws) 600, (mut-slice-tells (named 3) (κs .1 .1 .1 .0) u64, tt))))))))
@@ -203,7 +203,7 @@ module _ {M : Type 1} (𝓤 : URA M) (H : Heap 𝓤) (A : Atoms 𝓤) (W : Given
       (a .0) (a .1 .0) (a .1 .1 .0) (a .1 .1 .1 .0) (a .1 .1 .1 .1 .0) (a .1 .1 .1 .1 .1 .0) (a .1 .1 .1 .1 .1 .1 .0)
       (are .0) (are .1 .0 .0 .1) (are .1 .1 .0 .0 .1) (are .1 .1 .1 .0 .0 .1) (are .1 .1 .1 .1 .0 .0 .1) (are .1 .1 .1 .1 .1 .0) (are .1 .1 .1 .1 .1 .1 .0 .0 .1) C Λ fm known-closes))
 
-meets : {M : Type 1} (𝓤 : URA M) (H : Heap 𝓤) (A : Atoms 𝓤) → Given 𝓤 H A → (mem : Memory → SProp 𝓤) (run : Routine → Fun 𝓤) (𝓣 : Tables 𝓤 H) → Triple 𝓤 (𝓣 .C #site·Record·close) (Close 𝓤 H A mem run)
+meets : {M : Type 1} (𝓤 : URA M) (H : Heap 𝓤) (A : Atoms 𝓤) → Given 𝓤 H A → (mem : Memory → SProp 𝓤) (run : Routine → Fun 𝓤) (𝓣 : Tables 𝓤 H) → Triple 𝓤 (𝓣 .C #record-calls·Record·close) (Close 𝓤 H A mem run)
     → Meets 𝓤 H A f.signature (WpFn 𝓤 H (𝓣 .C) (𝓣 .Λ) code.function) (f.spec 𝓤 H A mem run)
 meets 𝓤 H A W mem run 𝓣 known-closes =
     walk-meets 𝓤 H A f.ended stayed W
@@ -216,4 +216,4 @@ close-own-spec 𝓤 H 𝓜 𝓖 𝓡 =
     entered 𝓤 H (tripleOf 𝓤 H (𝓖 .A) f.signature (f.spec 𝓤 H (𝓖 .A) (𝓜 .mem) (𝓡 .run)))
     (tables 𝓤 H 𝓜 𝓡 code.env .C) (tables 𝓤 H 𝓜 𝓡 code.env .Λ) #own-calls·closes·close-own code.function (code.unfolded 𝓤 H 𝓜 𝓡)
     (meets 𝓤 H (𝓖 .A) (givenOf 𝓤 H 𝓜 𝓖) (𝓜 .mem) (𝓡 .run) (tablesOf 𝓤 H 𝓜 (tables 𝓤 H 𝓜 𝓡 code.env))
-    (cited 𝓤 H (Close 𝓤 H (𝓖 .A) (𝓜 .mem) (𝓡 .run)) 𝓜 𝓡 code.env #site·Record·close closes-def.routine code.calls-site·Record·close (closes-thm.met 𝓤 H 𝓜 𝓖 𝓡)))
+    (cited 𝓤 H (Close 𝓤 H (𝓖 .A) (𝓜 .mem) (𝓡 .run)) 𝓜 𝓡 code.env #record-calls·Record·close closes-def.routine code.calls-record-calls·Record·close (closes-thm.met 𝓤 H 𝓜 𝓖 𝓡)))

@@ -41,29 +41,29 @@ use denote.Triple.Table.{entered, cited}
 use denote.Triple.Walked.{says, Stays, gave-slice, stay-none, stay-none-slice, walkOf, goes-gave-slice, goes-none, goes-none-slice, Walks, ends-at, walked, walk-meets}
 use denote.Exit.{yes}
 use denote.Struct.Laws as LL
-use Rattle.readings.specs.Readings.{seen}
-use Rattle.readings.specs.Columns.{world}
+use Rattle.readings.specs.Readings.{readingsView}
+use Rattle.readings.specs.Columns.{lentBlocks}
 use Rattle.meaning.specs.Calls.{lineOf}
-use Rattle.site.specs.Views.{view, handsBack}
-use Rattle.own_calls.specs.Own.{keptWith}
-use Rattle.readings.proofs.Lends.{Lent, lends, gives-back}
-use Rattle.site.specs.declared.Record.{Record}
-use Rattle.site.specs.declared.Opened.{Opened}
+use Rattle.record_calls.specs.Views.{view, callView}
+use Rattle.own_calls.specs.Own.{ownResultOf}
+use Rattle.readings.proofs.LentArrays.{Lent, lends, gives-back}
+use Rattle.record_calls.specs.declared.Record.{Record}
+use Rattle.record_calls.specs.declared.CallResult.{CallResult}
 use Rattle.readings.specs.declared.Reading.{Reading}
-use Rattle.own_calls.specs.declared.Kept.{Kept}
-use Rattle.site.proofs.Record as T
-use Rattle.site.proofs.Record.Laws as T′
-use Rattle.site.proofs.Opened as O
-use Rattle.site.proofs.Opened.Laws as O′
+use Rattle.own_calls.specs.declared.OwnResult.{OwnResult}
+use Rattle.record_calls.proofs.Record as T
+use Rattle.record_calls.proofs.Record.Laws as T′
+use Rattle.record_calls.proofs.CallResult as O
+use Rattle.record_calls.proofs.CallResult.Laws as O′
 use Rattle.readings.proofs.Reading as R
 use Rattle.readings.proofs.Reading.Laws as R′
-use Rattle.own_calls.proofs.Kept as K
-use Rattle.own_calls.proofs.Kept.Laws as K′
-use Rattle.readings.proofs.Gone.{full, gone}
-use Rattle.site.proofs.Record.line as a-line
-use Rattle.site.proofs.Record.line.Symbol as a-line-def
-use Rattle.site.proofs.Record.line.Symbol.{name as #site·Record·line}
-use Rattle.site.proofs.Record.line.Met as a-line-thm
+use Rattle.own_calls.proofs.OwnResult as K
+use Rattle.own_calls.proofs.OwnResult.Laws as K′
+use Rattle.readings.proofs.WalkEnds.{full, gone}
+use Rattle.record_calls.proofs.Record.line as a-line
+use Rattle.record_calls.proofs.Record.line.Symbol as a-line-def
+use Rattle.record_calls.proofs.Record.line.Symbol.{name as #record-calls·Record·line}
+use Rattle.record_calls.proofs.Record.line.Met as a-line-thm
 use Rattle.own_calls.proofs.packing.with_readings as with-readings
 use Rattle.own_calls.proofs.packing.with_readings.Symbol as with-readings-def
 use Rattle.own_calls.proofs.packing.with_readings.Symbol.{name as #own-calls·packing·with-readings}
@@ -166,18 +166,18 @@ module _ {M : Type 1} (𝓤 : URA M) (H : Heap 𝓤) (A : Atoms 𝓤) (W : Given
       qed W (‵ (flft κ₀ q₀) ∷ ‵ (flft κ₁ q₁) ∷ ‵ (flft κ₂ q₂) ∷ ‵ (flft κ₃ q₃) ∷ ‵ (flft κ₄ q₄) ∷ ‵ (flft (ν ∷ []) fullShare) ∷ ‵ (flft κ₅ q₅) ∷ ‵ Own-line ∷ ‵ Own-near ∷ ‵ Own-far ∷ ‵ Own-slots ∷ ‵ Own-daily ∷ ‵ (MutSlice erased (ν ∷ []) R.the-row .own (at-own l₉ γ readings) ((sliceVal (l₉, 0) 600) ∷ [])) ∷ ‵ Own-curve ∷ []) ∵ nothing ! $ move ! (14 ∷ 0 ∷ []) $ fjoin ! $ move ! (13 ∷ 0 ∷ []) $ fjoin ! $ move ! (12 ∷ 0 ∷ []) $ fjoin ! $ move ! (11 ∷ 0 ∷ []) $ fjoin ! $ move ! (10 ∷ 0 ∷ []) $ fjoin ! $ move ! (9 ∷ 0 ∷ []) $ fjoin ! $ move ! (8 ∷ 0 ∷ []) $ fjoin ! $ owned ! T.the-row (Is T.the-row) (LL.makes T.the-type T′.the-plain 𝓤 H A) (rec) _ rec-is $ fjoin ! $ nothing ! $ move ! (8 ∷ 0 ∷ []) $ join ! $ move ! (7 ∷ 0 ∷ []) $ join ! $ move ! (6 ∷ 0 ∷ []) $ join ! $ move ! (5 ∷ 0 ∷ []) $ join ! $ move ! (4 ∷ 0 ∷ []) $ join ! $ move ! (3 ∷ 0 ∷ []) $ join ! $ move ! (2 ∷ 0 ∷ []) $ join ! $ join ! $ frame ! $ done !
 
   -- `with_readings`: what it is passed, and that the caller has what it asks
-  abbrev to-with-readings : (r : Opened) (w : Val) (readings′ : List Reading) → Packed 𝓤 H A mem run .Ghost
+  abbrev to-with-readings : (r : CallResult) (w : Val) (readings′ : List Reading) → Packed 𝓤 H A mem run .Ghost
   to-with-readings r w readings′ = ((tt, tt, tt, (r, (readings′, tt)), (w ∷ [], (array-vals (LL.vals R.the-type R′.the-laws) (readings′), tt))), tt)
 
-  goes-with-readings : (r : Opened) (w : Val) (readings′ : List Reading) → (is : Is O.the-row r (w ∷ [])) (is-own : Is (Array R.the-row 600) readings′ (array-vals (LL.vals R.the-type R′.the-laws) readings′)) → ent 𝓤 (⋆ 𝓤 H A (‵ ftrue ∷ [])) (Packed 𝓤 H A mem run .pre (to-with-readings r w readings′))
+  goes-with-readings : (r : CallResult) (w : Val) (readings′ : List Reading) → (is : Is O.the-row r (w ∷ [])) (is-own : Is (Array R.the-row 600) readings′ (array-vals (LL.vals R.the-type R′.the-laws) readings′)) → ent 𝓤 (⋆ 𝓤 H A (‵ ftrue ∷ [])) (Packed 𝓤 H A mem run .pre (to-with-readings r w readings′))
   goes-with-readings r w readings′ is is-own =
       qed W (‵ ftrue ∷ []) ∵ drop ! $ nothing ! $ owned ! (Array R.the-row 600) (Is (Array R.the-row 600)) (array-makes 𝓤 H A W R.the-row (LL.makes R.the-type R′.the-plain 𝓤 H A) 600) (readings′) _ is-own $ fjoin ! $ owned ! O.the-row (Is O.the-row) (LL.makes O.the-type O′.the-plain 𝓤 H A) (r) _ is $ fjoin ! $ nothing ! $ join ! $ frame ! $ done !
 
-  exits : (r : Opened) (readings′ : List Reading) (r₂ : Kept) (w₂ : Val) (near′ : List ℕ) (far′ : List ℕ) (slots′ : List ℕ) (daily′ : List ℕ) → Is K.the-row r₂ (w₂ ∷ []) → handsBack r (world near′ far′ slots′ daily′ (seen readings′) (curve .now)) ≡ lineOf (view rec) (line .now) (world (near .now) (far .now) (slots .now) (daily .now) (seen readings) (curve .now)) → r₂ ≡ keptWith r readings′ → length near′ ≡ length (near .now) → length far′ ≡ length (far .now) → length slots′ ≡ length (slots .now) → length daily′ ≡ length (daily .now)
+  exits : (r : CallResult) (readings′ : List Reading) (r₂ : OwnResult) (w₂ : Val) (near′ : List ℕ) (far′ : List ℕ) (slots′ : List ℕ) (daily′ : List ℕ) → Is K.the-row r₂ (w₂ ∷ []) → callView r (lentBlocks near′ far′ slots′ daily′ (readingsView readings′) (curve .now)) ≡ lineOf (view rec) (line .now) (lentBlocks (near .now) (far .now) (slots .now) (daily .now) (readingsView readings) (curve .now)) → r₂ ≡ ownResultOf r readings′ → length near′ ≡ length (near .now) → length far′ ≡ length (far .now) → length slots′ ≡ length (slots .now) → length daily′ ≡ length (daily .now)
       → ent 𝓤 (⋆ 𝓤 H A (‵ (flft κ₀ q₀) ∷ ‵ (flft κ₁ q₁) ∷ ‵ (flft κ₂ q₂) ∷ ‵ (flft κ₃ q₃) ∷ ‵ (flft κ₄ q₄) ∷ ‵ (flft κ₅ q₅) ∷ ‵ (finally u32 (near .name) near′) ∷ ‵ (finally u32 (far .name) far′) ∷ ‵ (finally u16 (slots .name) slots′) ∷ ‵ (finally u32 (daily .name) daily′) ∷ ‵ Own-line ∷ ‵ Own-curve ∷ [])) (Post w₂)
   exits r readings′ r₂ w₂ near′ far′ slots′ daily′ is₂ e e₂ l-near l-far l-slots l-daily =
       qed W (‵ (flft κ₀ q₀) ∷ ‵ (flft κ₁ q₁) ∷ ‵ (flft κ₂ q₂) ∷ ‵ (flft κ₃ q₃) ∷ ‵ (flft κ₄ q₄) ∷ ‵ (flft κ₅ q₅) ∷ ‵ (finally u32 (near .name) near′) ∷ ‵ (finally u32 (far .name) far′) ∷ ‵ (finally u16 (slots .name) slots′) ∷ ‵ (finally u32 (daily .name) daily′) ∷ ‵ Own-line ∷ ‵ Own-curve ∷ []) ∵
-      suffices ! _ (ends-at 𝓤 H A f.ended stayed (f.clauses 𝓤 H A mem run) W (((κ₀, (κ₁, (κ₂, (κ₃, (κ₄, (κ₅, tt)))))), (q₀, (q₁, (q₂, (q₃, (q₄, (q₅, tt)))))), tt, a, at), tt) _ r₂ (tt, (tt, (near′, (far′, (slots′, (daily′, (tt, (tt, tt)))))))) (tt, (tt, (l-near, (l-far, (l-slots, (l-daily, (tt, (tt, tt))))))))) $ says ! (ap (λ (k : Kept). handsBack (k .opened) (world near′ far′ slots′ daily′ (seen (k .readings)) (curve .now))) e₂ ∙ e) $
+      suffices ! _ (ends-at 𝓤 H A f.ended stayed (f.clauses 𝓤 H A mem run) W (((κ₀, (κ₁, (κ₂, (κ₃, (κ₄, (κ₅, tt)))))), (q₀, (q₁, (q₂, (q₃, (q₄, (q₅, tt)))))), tt, a, at), tt) _ r₂ (tt, (tt, (near′, (far′, (slots′, (daily′, (tt, (tt, tt)))))))) (tt, (tt, (l-near, (l-far, (l-slots, (l-daily, (tt, (tt, tt))))))))) $ says ! (ap (λ (k : OwnResult). callView (k .call) (lentBlocks near′ far′ slots′ daily′ (readingsView (k .readings)) (curve .now))) e₂ ∙ e) $
       nothing ! $ move ! (6 ∷ 0 ∷ []) $ join ! $ move ! (5 ∷ 0 ∷ []) $ join ! $ move ! (4 ∷ 0 ∷ []) $ join ! $ move ! (3 ∷ 0 ∷ []) $ join ! $ move ! (2 ∷ 0 ∷ []) $ join ! $ move ! (1 ∷ 0 ∷ []) $ join ! $ frame ! $
       owned ! K.the-row (Is K.the-row) (LL.makes K.the-type K′.the-plain 𝓤 H A) (r₂) _ is₂ $ nothing ! $ move ! (7 ∷ 0 ∷ []) $ fjoin ! $ owned ! (Array R.the-row 600) (Is (Array R.the-row 600)) (array-makes 𝓤 H A W R.the-row (LL.makes R.the-type R′.the-plain 𝓤 H A) 600) (readings) _ readings-is $ fjoin ! $ move ! (5 ∷ 0 ∷ []) $ fjoin ! $ move ! (4 ∷ 0 ∷ []) $ fjoin ! $ move ! (3 ∷ 0 ∷ []) $ fjoin ! $ move ! (2 ∷ 0 ∷ []) $ fjoin ! $ move ! (2 ∷ 0 ∷ []) $ fjoin ! $ owned ! T.the-row (Is T.the-row) (LL.makes T.the-type T′.the-plain 𝓤 H A) (rec) _ rec-is $ fjoin ! $ done !
 
@@ -186,26 +186,26 @@ module _ {M : Type 1} (𝓤 : URA M) (H : Heap 𝓤) (A : Atoms 𝓤) (W : Given
     En = (tyK, l₀) ∷ (tyT, l₁) ∷ ((sliceTy (tyRef (named 0) imm (tyInt w8))), l₂) ∷ ((sliceTy (tyRef (named 1) mut (tyInt w32))), l₃) ∷ ((sliceTy (tyRef (named 2) mut (tyInt w32))), l₄) ∷ ((sliceTy (tyRef (named 3) mut (tyInt w16))), l₅) ∷ ((sliceTy (tyRef (named 4) mut (tyInt w32))), l₆) ∷ ((tyArray tyR 600), l₇) ∷ ((sliceTy (tyRef (named 5) imm (tyInt w64))), l₈) ∷ ((tyArray tyR 600), l₉) ∷ (tyO, l₁₀) ∷ ((tyRef erased mut (tyInt w32)), l₁₁) ∷ ((sliceTy (tyRef erased mut (tyInt w32))), l₁₂) ∷ ((tyRef erased mut (tyInt w32)), l₁₃) ∷ ((sliceTy (tyRef erased mut (tyInt w32))), l₁₄) ∷ ((tyRef erased mut (tyInt w16)), l₁₅) ∷ ((sliceTy (tyRef erased mut (tyInt w16))), l₁₆) ∷ ((tyRef erased mut (tyInt w32)), l₁₇) ∷ ((sliceTy (tyRef erased mut (tyInt w32))), l₁₈) ∷ ((tyRef erased mut (tyArray (pointee (R.the-row .written)) 600)), l₁₉) ∷ ((sliceTy (tyRef erased mut (pointee (R.the-row .written)))), l₂₀) ∷ ((tyArray tyR 600), l₂₁) ∷ []
 
     -- the locals at the return, in the order in which they are freed
-    left : (w : Val) (r : Opened) (readings′ : List Reading) (r₂ : Kept) (w₂ : Val) (near′ : List ℕ) (far′ : List ℕ) (slots′ : List ℕ) (daily′ : List ℕ) → Is K.the-row r₂ (w₂ ∷ []) → handsBack r (world near′ far′ slots′ daily′ (seen readings′) (curve .now)) ≡ lineOf (view rec) (line .now) (world (near .now) (far .now) (slots .now) (daily .now) (seen readings) (curve .now)) → r₂ ≡ keptWith r readings′ → length near′ ≡ length (near .now) → length far′ ≡ length (far .now) → length slots′ ≡ length (slots .now) → length daily′ ≡ length (daily .now)
+    left : (w : Val) (r : CallResult) (readings′ : List Reading) (r₂ : OwnResult) (w₂ : Val) (near′ : List ℕ) (far′ : List ℕ) (slots′ : List ℕ) (daily′ : List ℕ) → Is K.the-row r₂ (w₂ ∷ []) → callView r (lentBlocks near′ far′ slots′ daily′ (readingsView readings′) (curve .now)) ≡ lineOf (view rec) (line .now) (lentBlocks (near .now) (far .now) (slots .now) (daily .now) (readingsView readings) (curve .now)) → r₂ ≡ ownResultOf r readings′ → length near′ ≡ length (near .now) → length far′ ≡ length (far .now) → length slots′ ≡ length (slots .now) → length daily′ ≡ length (daily .now)
         → Sq W (full tyK l₀ w₂ (full tyT l₁ (LL.val T.the-type T′.the-laws rec) (full (sliceTy (tyRef (named 0) imm (tyInt w8))) l₂ v-line (full (sliceTy (tyRef (named 1) mut (tyInt w32))) l₃ v-near (full (sliceTy (tyRef (named 2) mut (tyInt w32))) l₄ v-far (full (sliceTy (tyRef (named 3) mut (tyInt w16))) l₅ v-slots (full (sliceTy (tyRef (named 4) mut (tyInt w32))) l₆ v-daily (full (tyArray tyR 600) l₇ (only (array-vals (LL.vals R.the-type R′.the-laws) readings)) (full (sliceTy (tyRef (named 5) imm (tyInt w64))) l₈ v-curve (full (tyArray tyR 600) l₉ (only (array-vals (LL.vals R.the-type R′.the-laws) readings′)) (full tyO l₁₀ w (full (tyRef erased mut (tyInt w32)) l₁₁ (vptr (near .ptr .0) (near .ptr .1)) (full (sliceTy (tyRef erased mut (tyInt w32))) l₁₂ v-near (full (tyRef erased mut (tyInt w32)) l₁₃ (vptr (far .ptr .0) (far .ptr .1)) (full (sliceTy (tyRef erased mut (tyInt w32))) l₁₄ v-far (full (tyRef erased mut (tyInt w16)) l₁₅ (vptr (slots .ptr .0) (slots .ptr .1)) (full (sliceTy (tyRef erased mut (tyInt w16))) l₁₆ v-slots (full (tyRef erased mut (tyInt w32)) l₁₇ (vptr (daily .ptr .0) (daily .ptr .1)) (full (sliceTy (tyRef erased mut (tyInt w32))) l₁₈ v-daily (full (tyRef erased mut (tyArray (pointee (R.the-row .written)) 600)) l₁₉ (vptr l₉ 0) (full (sliceTy (tyRef erased mut (pointee (R.the-row .written)))) l₂₀ (sliceVal (l₉, 0) 600) (full (tyArray tyR 600) l₂₁ (only (array-vals (LL.vals R.the-type R′.the-laws) readings′)) (‵ (flft κ₀ q₀) ∷ ‵ (flft κ₁ q₁) ∷ ‵ (flft κ₂ q₂) ∷ ‵ (flft κ₃ q₃) ∷ ‵ (flft κ₄ q₄) ∷ ‵ (flft κ₅ q₅) ∷ ‵ (finally u32 (near .name) near′) ∷ ‵ (finally u32 (far .name) far′) ∷ ‵ (finally u16 (slots .name) slots′) ∷ ‵ (finally u32 (daily .name) daily′) ∷ ‵ Own-line ∷ ‵ Own-curve ∷ []))))))))))))))))))))))) (frees En (prop (Post w₂)))
     left w r readings′ r₂ w₂ near′ far′ slots′ daily′ is₂ e e₂ l-near l-far l-slots l-daily =
         gone ! $ gone ! $ gone ! $ gone ! $ gone ! $ gone ! $ gone ! $ gone ! $ gone ! $ gone ! $ gone ! $ gone ! $ gone ! $ gone ! $ gone ! $ gone ! $ gone ! $ gone ! $ gone ! $ gone ! $ gone ! $ gone ! $ free0 ! $ by ! (exits r readings′ r₂ w₂ near′ far′ slots′ daily′ is₂ e e₂ l-near l-far l-slots l-daily)
 
-  module _ (C : Calls 𝓤 H) (Λ : Loops 𝓤 H) (fm : FmC 𝓤 H (W .laws) C) (known-a-line : Triple 𝓤 (C #site·Record·line) (Line 𝓤 H A mem run)) (known-with-readings : Triple 𝓤 (C #own-calls·packing·with-readings) (Packed 𝓤 H A mem run)) where
+  module _ (C : Calls 𝓤 H) (Λ : Loops 𝓤 H) (fm : FmC 𝓤 H (W .laws) C) (known-a-line : Triple 𝓤 (C #record-calls·Record·line) (Line 𝓤 H A mem run)) (known-with-readings : Triple 𝓤 (C #own-calls·packing·with-readings) (Packed 𝓤 H A mem run)) where
     module _ (l₀ l₁ l₂ l₃ l₄ l₅ l₆ l₇ l₈ l₉ l₁₀ l₁₁ l₁₂ l₁₃ l₁₄ l₁₅ l₁₆ l₁₇ l₁₈ l₁₉ l₂₀ l₂₁ : ℕ) where
-      after-with-readings : (r : Opened) (w : Val) (near′ : List ℕ) (far′ : List ℕ) (slots′ : List ℕ) (daily′ : List ℕ) (readings′ : List Reading) (is : Is O.the-row r (w ∷ [])) (e : handsBack r (world near′ far′ slots′ daily′ (seen readings′) (curve .now)) ≡ lineOf (view rec) (line .now) (world (near .now) (far .now) (slots .now) (daily .now) (seen readings) (curve .now))) (is-own : Is (Array R.the-row 600) readings′ (array-vals (LL.vals R.the-type R′.the-laws) readings′)) (l-near : length near′ ≡ length (near .now)) (l-far : length far′ ≡ length (far .now)) (l-slots : length slots′ ≡ length (slots .now)) (l-daily : length daily′ ≡ length (daily .now)) (r₂ : Kept) (w₂ : Val) (is₂ : Is K.the-row r₂ (w₂ ∷ [])) (e₂ : r₂ ≡ keptWith r readings′) → Sq W (‵ (fat fullShare (tyArray tyR 600) l₉ 0 (only (array-vals (LL.vals R.the-type R′.the-laws) readings′))) ∷ ‵ (flft κ₅ q₅) ∷ ‵ (flft κ₄ q₄) ∷ ‵ (flft κ₃ q₃) ∷ ‵ (flft κ₂ q₂) ∷ ‵ (flft κ₁ q₁) ∷ ‵ (flft κ₀ q₀) ∷ ‵ (finally u32 (daily .name) daily′) ∷ ‵ (finally u16 (slots .name) slots′) ∷ ‵ (finally u32 (far .name) far′) ∷ ‵ (finally u32 (near .name) near′) ∷ ‵ Own-line ∷ ‵ Own-curve ∷ ‵ (fat fullShare (tyArray tyR 600) l₂₁ 0 (only (array-vals (LL.vals R.the-type R′.the-laws) readings′))) ∷ ‵ (fdies (tyArray tyR 600) l₂₁) ∷ ‵ (fat fullShare (sliceTy (tyRef erased mut (pointee (R.the-row .written)))) l₂₀ 0 (sliceVal (l₉, 0) 600)) ∷ ‵ (fdies (sliceTy (tyRef erased mut (pointee (R.the-row .written)))) l₂₀) ∷ ‵ (fat fullShare (tyRef erased mut (tyArray (pointee (R.the-row .written)) 600)) l₁₉ 0 (vptr l₉ 0)) ∷ ‵ (fdies (tyRef erased mut (tyArray (pointee (R.the-row .written)) 600)) l₁₉) ∷ ‵ (fat fullShare (sliceTy (tyRef erased mut (tyInt w32))) l₁₈ 0 v-daily) ∷ ‵ (fdies (sliceTy (tyRef erased mut (tyInt w32))) l₁₈) ∷ ‵ (fat fullShare (tyRef erased mut (tyInt w32)) l₁₇ 0 (vptr (daily .ptr .0) (daily .ptr .1))) ∷ ‵ (fdies (tyRef erased mut (tyInt w32)) l₁₇) ∷ ‵ (fat fullShare (sliceTy (tyRef erased mut (tyInt w16))) l₁₆ 0 v-slots) ∷ ‵ (fdies (sliceTy (tyRef erased mut (tyInt w16))) l₁₆) ∷ ‵ (fat fullShare (tyRef erased mut (tyInt w16)) l₁₅ 0 (vptr (slots .ptr .0) (slots .ptr .1))) ∷ ‵ (fdies (tyRef erased mut (tyInt w16)) l₁₅) ∷ ‵ (fat fullShare (sliceTy (tyRef erased mut (tyInt w32))) l₁₄ 0 v-far) ∷ ‵ (fdies (sliceTy (tyRef erased mut (tyInt w32))) l₁₄) ∷ ‵ (fat fullShare (tyRef erased mut (tyInt w32)) l₁₃ 0 (vptr (far .ptr .0) (far .ptr .1))) ∷ ‵ (fdies (tyRef erased mut (tyInt w32)) l₁₃) ∷ ‵ (fat fullShare (sliceTy (tyRef erased mut (tyInt w32))) l₁₂ 0 v-near) ∷ ‵ (fdies (sliceTy (tyRef erased mut (tyInt w32))) l₁₂) ∷ ‵ (fat fullShare (tyRef erased mut (tyInt w32)) l₁₁ 0 (vptr (near .ptr .0) (near .ptr .1))) ∷ ‵ (fdies (tyRef erased mut (tyInt w32)) l₁₁) ∷ ‵ (fat fullShare tyO l₁₀ 0 w) ∷ ‵ (fdies tyO l₁₀) ∷ ‵ (fdies (tyArray tyR 600) l₉) ∷ ‵ (fat fullShare (sliceTy (tyRef (named 5) imm (tyInt w64))) l₈ 0 v-curve) ∷ ‵ (fdies (sliceTy (tyRef (named 5) imm (tyInt w64))) l₈) ∷ ‵ (fat fullShare (tyArray tyR 600) l₇ 0 (only (array-vals (LL.vals R.the-type R′.the-laws) readings))) ∷ ‵ (fdies (tyArray tyR 600) l₇) ∷ ‵ (fat fullShare (sliceTy (tyRef (named 4) mut (tyInt w32))) l₆ 0 v-daily) ∷ ‵ (fdies (sliceTy (tyRef (named 4) mut (tyInt w32))) l₆) ∷ ‵ (fat fullShare (sliceTy (tyRef (named 3) mut (tyInt w16))) l₅ 0 v-slots) ∷ ‵ (fdies (sliceTy (tyRef (named 3) mut (tyInt w16))) l₅) ∷ ‵ (fat fullShare (sliceTy (tyRef (named 2) mut (tyInt w32))) l₄ 0 v-far) ∷ ‵ (fdies (sliceTy (tyRef (named 2) mut (tyInt w32))) l₄) ∷ ‵ (fat fullShare (sliceTy (tyRef (named 1) mut (tyInt w32))) l₃ 0 v-near) ∷ ‵ (fdies (sliceTy (tyRef (named 1) mut (tyInt w32))) l₃) ∷ ‵ (fat fullShare (sliceTy (tyRef (named 0) imm (tyInt w8))) l₂ 0 v-line) ∷ ‵ (fdies (sliceTy (tyRef (named 0) imm (tyInt w8))) l₂) ∷ ‵ (fat fullShare tyT l₁ 0 (LL.val T.the-type T′.the-laws rec)) ∷ ‵ (fdies tyT l₁) ∷ ‵ (fat fullShare tyK l₀ 0 w₂) ∷ ‵ (fdies tyK l₀) ∷ []) (runs C Λ (En l₀ l₁ l₂ l₃ l₄ l₅ l₆ l₇ l₈ l₉ l₁₀ l₁₁ l₁₂ l₁₃ l₁₄ l₁₅ l₁₆ l₁₇ l₁₈ l₁₉ l₂₀ l₂₁) pieces.t-15 (atRet (En l₀ l₁ l₂ l₃ l₄ l₅ l₆ l₇ l₈ l₉ l₁₀ l₁₁ l₁₂ l₁₃ l₁₄ l₁₅ l₁₆ l₁₇ l₁₈ l₁₉ l₂₀ l₂₁) Post))
+      after-with-readings : (r : CallResult) (w : Val) (near′ : List ℕ) (far′ : List ℕ) (slots′ : List ℕ) (daily′ : List ℕ) (readings′ : List Reading) (is : Is O.the-row r (w ∷ [])) (e : callView r (lentBlocks near′ far′ slots′ daily′ (readingsView readings′) (curve .now)) ≡ lineOf (view rec) (line .now) (lentBlocks (near .now) (far .now) (slots .now) (daily .now) (readingsView readings) (curve .now))) (is-own : Is (Array R.the-row 600) readings′ (array-vals (LL.vals R.the-type R′.the-laws) readings′)) (l-near : length near′ ≡ length (near .now)) (l-far : length far′ ≡ length (far .now)) (l-slots : length slots′ ≡ length (slots .now)) (l-daily : length daily′ ≡ length (daily .now)) (r₂ : OwnResult) (w₂ : Val) (is₂ : Is K.the-row r₂ (w₂ ∷ [])) (e₂ : r₂ ≡ ownResultOf r readings′) → Sq W (‵ (fat fullShare (tyArray tyR 600) l₉ 0 (only (array-vals (LL.vals R.the-type R′.the-laws) readings′))) ∷ ‵ (flft κ₅ q₅) ∷ ‵ (flft κ₄ q₄) ∷ ‵ (flft κ₃ q₃) ∷ ‵ (flft κ₂ q₂) ∷ ‵ (flft κ₁ q₁) ∷ ‵ (flft κ₀ q₀) ∷ ‵ (finally u32 (daily .name) daily′) ∷ ‵ (finally u16 (slots .name) slots′) ∷ ‵ (finally u32 (far .name) far′) ∷ ‵ (finally u32 (near .name) near′) ∷ ‵ Own-line ∷ ‵ Own-curve ∷ ‵ (fat fullShare (tyArray tyR 600) l₂₁ 0 (only (array-vals (LL.vals R.the-type R′.the-laws) readings′))) ∷ ‵ (fdies (tyArray tyR 600) l₂₁) ∷ ‵ (fat fullShare (sliceTy (tyRef erased mut (pointee (R.the-row .written)))) l₂₀ 0 (sliceVal (l₉, 0) 600)) ∷ ‵ (fdies (sliceTy (tyRef erased mut (pointee (R.the-row .written)))) l₂₀) ∷ ‵ (fat fullShare (tyRef erased mut (tyArray (pointee (R.the-row .written)) 600)) l₁₉ 0 (vptr l₉ 0)) ∷ ‵ (fdies (tyRef erased mut (tyArray (pointee (R.the-row .written)) 600)) l₁₉) ∷ ‵ (fat fullShare (sliceTy (tyRef erased mut (tyInt w32))) l₁₈ 0 v-daily) ∷ ‵ (fdies (sliceTy (tyRef erased mut (tyInt w32))) l₁₈) ∷ ‵ (fat fullShare (tyRef erased mut (tyInt w32)) l₁₇ 0 (vptr (daily .ptr .0) (daily .ptr .1))) ∷ ‵ (fdies (tyRef erased mut (tyInt w32)) l₁₇) ∷ ‵ (fat fullShare (sliceTy (tyRef erased mut (tyInt w16))) l₁₆ 0 v-slots) ∷ ‵ (fdies (sliceTy (tyRef erased mut (tyInt w16))) l₁₆) ∷ ‵ (fat fullShare (tyRef erased mut (tyInt w16)) l₁₅ 0 (vptr (slots .ptr .0) (slots .ptr .1))) ∷ ‵ (fdies (tyRef erased mut (tyInt w16)) l₁₅) ∷ ‵ (fat fullShare (sliceTy (tyRef erased mut (tyInt w32))) l₁₄ 0 v-far) ∷ ‵ (fdies (sliceTy (tyRef erased mut (tyInt w32))) l₁₄) ∷ ‵ (fat fullShare (tyRef erased mut (tyInt w32)) l₁₃ 0 (vptr (far .ptr .0) (far .ptr .1))) ∷ ‵ (fdies (tyRef erased mut (tyInt w32)) l₁₃) ∷ ‵ (fat fullShare (sliceTy (tyRef erased mut (tyInt w32))) l₁₂ 0 v-near) ∷ ‵ (fdies (sliceTy (tyRef erased mut (tyInt w32))) l₁₂) ∷ ‵ (fat fullShare (tyRef erased mut (tyInt w32)) l₁₁ 0 (vptr (near .ptr .0) (near .ptr .1))) ∷ ‵ (fdies (tyRef erased mut (tyInt w32)) l₁₁) ∷ ‵ (fat fullShare tyO l₁₀ 0 w) ∷ ‵ (fdies tyO l₁₀) ∷ ‵ (fdies (tyArray tyR 600) l₉) ∷ ‵ (fat fullShare (sliceTy (tyRef (named 5) imm (tyInt w64))) l₈ 0 v-curve) ∷ ‵ (fdies (sliceTy (tyRef (named 5) imm (tyInt w64))) l₈) ∷ ‵ (fat fullShare (tyArray tyR 600) l₇ 0 (only (array-vals (LL.vals R.the-type R′.the-laws) readings))) ∷ ‵ (fdies (tyArray tyR 600) l₇) ∷ ‵ (fat fullShare (sliceTy (tyRef (named 4) mut (tyInt w32))) l₆ 0 v-daily) ∷ ‵ (fdies (sliceTy (tyRef (named 4) mut (tyInt w32))) l₆) ∷ ‵ (fat fullShare (sliceTy (tyRef (named 3) mut (tyInt w16))) l₅ 0 v-slots) ∷ ‵ (fdies (sliceTy (tyRef (named 3) mut (tyInt w16))) l₅) ∷ ‵ (fat fullShare (sliceTy (tyRef (named 2) mut (tyInt w32))) l₄ 0 v-far) ∷ ‵ (fdies (sliceTy (tyRef (named 2) mut (tyInt w32))) l₄) ∷ ‵ (fat fullShare (sliceTy (tyRef (named 1) mut (tyInt w32))) l₃ 0 v-near) ∷ ‵ (fdies (sliceTy (tyRef (named 1) mut (tyInt w32))) l₃) ∷ ‵ (fat fullShare (sliceTy (tyRef (named 0) imm (tyInt w8))) l₂ 0 v-line) ∷ ‵ (fdies (sliceTy (tyRef (named 0) imm (tyInt w8))) l₂) ∷ ‵ (fat fullShare tyT l₁ 0 (LL.val T.the-type T′.the-laws rec)) ∷ ‵ (fdies tyT l₁) ∷ ‵ (fat fullShare tyK l₀ 0 w₂) ∷ ‵ (fdies tyK l₀) ∷ []) (runs C Λ (En l₀ l₁ l₂ l₃ l₄ l₅ l₆ l₇ l₈ l₉ l₁₀ l₁₁ l₁₂ l₁₃ l₁₄ l₁₅ l₁₆ l₁₇ l₁₈ l₁₉ l₂₀ l₂₁) pieces.t-15 (atRet (En l₀ l₁ l₂ l₃ l₄ l₅ l₆ l₇ l₈ l₉ l₁₀ l₁₁ l₁₂ l₁₃ l₁₄ l₁₅ l₁₆ l₁₇ l₁₈ l₁₉ l₂₀ l₂₁) Post))
       after-with-readings r w near′ far′ slots′ daily′ readings′ is e is-own l-near l-far l-slots l-daily r₂ w₂ is₂ e₂ =
           returns ! (look ! 54 refl) $ keep ! (54 ∷ 55 ∷ 52 ∷ 53 ∷ 50 ∷ 51 ∷ 48 ∷ 49 ∷ 46 ∷ 47 ∷ 44 ∷ 45 ∷ 42 ∷ 43 ∷ 40 ∷ 41 ∷ 38 ∷ 39 ∷ 0 ∷ 37 ∷ 35 ∷ 36 ∷ 33 ∷ 34 ∷ 31 ∷ 32 ∷ 29 ∷ 30 ∷ 27 ∷ 28 ∷ 25 ∷ 26 ∷ 23 ∷ 24 ∷ 21 ∷ 22 ∷ 19 ∷ 20 ∷ 17 ∷ 18 ∷ 15 ∷ 16 ∷ 13 ∷ 14 ∷ 6 ∷ 5 ∷ 4 ∷ 3 ∷ 2 ∷ 1 ∷ 10 ∷ 9 ∷ 8 ∷ 7 ∷ 11 ∷ 12 ∷ []) $ left l₀ l₁ l₂ l₃ l₄ l₅ l₆ l₇ l₈ l₉ l₁₀ l₁₁ l₁₂ l₁₃ l₁₄ l₁₅ l₁₆ l₁₇ l₁₈ l₁₉ l₂₀ l₂₁ w r readings′ r₂ w₂ near′ far′ slots′ daily′ is₂ e e₂ l-near l-far l-slots l-daily
 
-      after-a-line : (r : Opened) (w : Val) (near′ : List ℕ) (far′ : List ℕ) (slots′ : List ℕ) (daily′ : List ℕ) (readings′ : List Reading) (is : Is O.the-row r (w ∷ [])) (e : handsBack r (world near′ far′ slots′ daily′ (seen readings′) (curve .now)) ≡ lineOf (view rec) (line .now) (world (near .now) (far .now) (slots .now) (daily .now) (seen readings) (curve .now))) (is-own : Is (Array R.the-row 600) readings′ (array-vals (LL.vals R.the-type R′.the-laws) readings′)) (l-near : length near′ ≡ length (near .now)) (l-far : length far′ ≡ length (far .now)) (l-slots : length slots′ ≡ length (slots .now)) (l-daily : length daily′ ≡ length (daily .now)) → Sq W (‵ (fat fullShare (tyArray tyR 600) l₉ 0 (only (array-vals (LL.vals R.the-type R′.the-laws) readings′))) ∷ ‵ (flft κ₅ q₅) ∷ ‵ (flft κ₄ q₄) ∷ ‵ (flft κ₃ q₃) ∷ ‵ (flft κ₂ q₂) ∷ ‵ (flft κ₁ q₁) ∷ ‵ (flft κ₀ q₀) ∷ ‵ (finally u32 (daily .name) daily′) ∷ ‵ (finally u16 (slots .name) slots′) ∷ ‵ (finally u32 (far .name) far′) ∷ ‵ (finally u32 (near .name) near′) ∷ ‵ Own-line ∷ ‵ Own-curve ∷ ‵ (froom (tyArray tyR 600) l₂₁ 0) ∷ ‵ (fdies (tyArray tyR 600) l₂₁) ∷ ‵ (fat fullShare (sliceTy (tyRef erased mut (pointee (R.the-row .written)))) l₂₀ 0 (sliceVal (l₉, 0) 600)) ∷ ‵ (fdies (sliceTy (tyRef erased mut (pointee (R.the-row .written)))) l₂₀) ∷ ‵ (fat fullShare (tyRef erased mut (tyArray (pointee (R.the-row .written)) 600)) l₁₉ 0 (vptr l₉ 0)) ∷ ‵ (fdies (tyRef erased mut (tyArray (pointee (R.the-row .written)) 600)) l₁₉) ∷ ‵ (fat fullShare (sliceTy (tyRef erased mut (tyInt w32))) l₁₈ 0 v-daily) ∷ ‵ (fdies (sliceTy (tyRef erased mut (tyInt w32))) l₁₈) ∷ ‵ (fat fullShare (tyRef erased mut (tyInt w32)) l₁₇ 0 (vptr (daily .ptr .0) (daily .ptr .1))) ∷ ‵ (fdies (tyRef erased mut (tyInt w32)) l₁₇) ∷ ‵ (fat fullShare (sliceTy (tyRef erased mut (tyInt w16))) l₁₆ 0 v-slots) ∷ ‵ (fdies (sliceTy (tyRef erased mut (tyInt w16))) l₁₆) ∷ ‵ (fat fullShare (tyRef erased mut (tyInt w16)) l₁₅ 0 (vptr (slots .ptr .0) (slots .ptr .1))) ∷ ‵ (fdies (tyRef erased mut (tyInt w16)) l₁₅) ∷ ‵ (fat fullShare (sliceTy (tyRef erased mut (tyInt w32))) l₁₄ 0 v-far) ∷ ‵ (fdies (sliceTy (tyRef erased mut (tyInt w32))) l₁₄) ∷ ‵ (fat fullShare (tyRef erased mut (tyInt w32)) l₁₃ 0 (vptr (far .ptr .0) (far .ptr .1))) ∷ ‵ (fdies (tyRef erased mut (tyInt w32)) l₁₃) ∷ ‵ (fat fullShare (sliceTy (tyRef erased mut (tyInt w32))) l₁₂ 0 v-near) ∷ ‵ (fdies (sliceTy (tyRef erased mut (tyInt w32))) l₁₂) ∷ ‵ (fat fullShare (tyRef erased mut (tyInt w32)) l₁₁ 0 (vptr (near .ptr .0) (near .ptr .1))) ∷ ‵ (fdies (tyRef erased mut (tyInt w32)) l₁₁) ∷ ‵ (fat fullShare tyO l₁₀ 0 w) ∷ ‵ (fdies tyO l₁₀) ∷ ‵ (fdies (tyArray tyR 600) l₉) ∷ ‵ (fat fullShare (sliceTy (tyRef (named 5) imm (tyInt w64))) l₈ 0 v-curve) ∷ ‵ (fdies (sliceTy (tyRef (named 5) imm (tyInt w64))) l₈) ∷ ‵ (fat fullShare (tyArray tyR 600) l₇ 0 (only (array-vals (LL.vals R.the-type R′.the-laws) readings))) ∷ ‵ (fdies (tyArray tyR 600) l₇) ∷ ‵ (fat fullShare (sliceTy (tyRef (named 4) mut (tyInt w32))) l₆ 0 v-daily) ∷ ‵ (fdies (sliceTy (tyRef (named 4) mut (tyInt w32))) l₆) ∷ ‵ (fat fullShare (sliceTy (tyRef (named 3) mut (tyInt w16))) l₅ 0 v-slots) ∷ ‵ (fdies (sliceTy (tyRef (named 3) mut (tyInt w16))) l₅) ∷ ‵ (fat fullShare (sliceTy (tyRef (named 2) mut (tyInt w32))) l₄ 0 v-far) ∷ ‵ (fdies (sliceTy (tyRef (named 2) mut (tyInt w32))) l₄) ∷ ‵ (fat fullShare (sliceTy (tyRef (named 1) mut (tyInt w32))) l₃ 0 v-near) ∷ ‵ (fdies (sliceTy (tyRef (named 1) mut (tyInt w32))) l₃) ∷ ‵ (fat fullShare (sliceTy (tyRef (named 0) imm (tyInt w8))) l₂ 0 v-line) ∷ ‵ (fdies (sliceTy (tyRef (named 0) imm (tyInt w8))) l₂) ∷ ‵ (fat fullShare tyT l₁ 0 (LL.val T.the-type T′.the-laws rec)) ∷ ‵ (fdies tyT l₁) ∷ ‵ (froom tyK l₀ 0) ∷ ‵ (fdies tyK l₀) ∷ []) (runs C Λ (En l₀ l₁ l₂ l₃ l₄ l₅ l₆ l₇ l₈ l₉ l₁₀ l₁₁ l₁₂ l₁₃ l₁₄ l₁₅ l₁₆ l₁₇ l₁₈ l₁₉ l₂₀ l₂₁) pieces.t-13 (atRet (En l₀ l₁ l₂ l₃ l₄ l₅ l₆ l₇ l₈ l₉ l₁₀ l₁₁ l₁₂ l₁₃ l₁₄ l₁₅ l₁₆ l₁₇ l₁₈ l₁₉ l₂₀ l₂₁) Post))
+      after-a-line : (r : CallResult) (w : Val) (near′ : List ℕ) (far′ : List ℕ) (slots′ : List ℕ) (daily′ : List ℕ) (readings′ : List Reading) (is : Is O.the-row r (w ∷ [])) (e : callView r (lentBlocks near′ far′ slots′ daily′ (readingsView readings′) (curve .now)) ≡ lineOf (view rec) (line .now) (lentBlocks (near .now) (far .now) (slots .now) (daily .now) (readingsView readings) (curve .now))) (is-own : Is (Array R.the-row 600) readings′ (array-vals (LL.vals R.the-type R′.the-laws) readings′)) (l-near : length near′ ≡ length (near .now)) (l-far : length far′ ≡ length (far .now)) (l-slots : length slots′ ≡ length (slots .now)) (l-daily : length daily′ ≡ length (daily .now)) → Sq W (‵ (fat fullShare (tyArray tyR 600) l₉ 0 (only (array-vals (LL.vals R.the-type R′.the-laws) readings′))) ∷ ‵ (flft κ₅ q₅) ∷ ‵ (flft κ₄ q₄) ∷ ‵ (flft κ₃ q₃) ∷ ‵ (flft κ₂ q₂) ∷ ‵ (flft κ₁ q₁) ∷ ‵ (flft κ₀ q₀) ∷ ‵ (finally u32 (daily .name) daily′) ∷ ‵ (finally u16 (slots .name) slots′) ∷ ‵ (finally u32 (far .name) far′) ∷ ‵ (finally u32 (near .name) near′) ∷ ‵ Own-line ∷ ‵ Own-curve ∷ ‵ (froom (tyArray tyR 600) l₂₁ 0) ∷ ‵ (fdies (tyArray tyR 600) l₂₁) ∷ ‵ (fat fullShare (sliceTy (tyRef erased mut (pointee (R.the-row .written)))) l₂₀ 0 (sliceVal (l₉, 0) 600)) ∷ ‵ (fdies (sliceTy (tyRef erased mut (pointee (R.the-row .written)))) l₂₀) ∷ ‵ (fat fullShare (tyRef erased mut (tyArray (pointee (R.the-row .written)) 600)) l₁₉ 0 (vptr l₉ 0)) ∷ ‵ (fdies (tyRef erased mut (tyArray (pointee (R.the-row .written)) 600)) l₁₉) ∷ ‵ (fat fullShare (sliceTy (tyRef erased mut (tyInt w32))) l₁₈ 0 v-daily) ∷ ‵ (fdies (sliceTy (tyRef erased mut (tyInt w32))) l₁₈) ∷ ‵ (fat fullShare (tyRef erased mut (tyInt w32)) l₁₇ 0 (vptr (daily .ptr .0) (daily .ptr .1))) ∷ ‵ (fdies (tyRef erased mut (tyInt w32)) l₁₇) ∷ ‵ (fat fullShare (sliceTy (tyRef erased mut (tyInt w16))) l₁₆ 0 v-slots) ∷ ‵ (fdies (sliceTy (tyRef erased mut (tyInt w16))) l₁₆) ∷ ‵ (fat fullShare (tyRef erased mut (tyInt w16)) l₁₅ 0 (vptr (slots .ptr .0) (slots .ptr .1))) ∷ ‵ (fdies (tyRef erased mut (tyInt w16)) l₁₅) ∷ ‵ (fat fullShare (sliceTy (tyRef erased mut (tyInt w32))) l₁₄ 0 v-far) ∷ ‵ (fdies (sliceTy (tyRef erased mut (tyInt w32))) l₁₄) ∷ ‵ (fat fullShare (tyRef erased mut (tyInt w32)) l₁₃ 0 (vptr (far .ptr .0) (far .ptr .1))) ∷ ‵ (fdies (tyRef erased mut (tyInt w32)) l₁₃) ∷ ‵ (fat fullShare (sliceTy (tyRef erased mut (tyInt w32))) l₁₂ 0 v-near) ∷ ‵ (fdies (sliceTy (tyRef erased mut (tyInt w32))) l₁₂) ∷ ‵ (fat fullShare (tyRef erased mut (tyInt w32)) l₁₁ 0 (vptr (near .ptr .0) (near .ptr .1))) ∷ ‵ (fdies (tyRef erased mut (tyInt w32)) l₁₁) ∷ ‵ (fat fullShare tyO l₁₀ 0 w) ∷ ‵ (fdies tyO l₁₀) ∷ ‵ (fdies (tyArray tyR 600) l₉) ∷ ‵ (fat fullShare (sliceTy (tyRef (named 5) imm (tyInt w64))) l₈ 0 v-curve) ∷ ‵ (fdies (sliceTy (tyRef (named 5) imm (tyInt w64))) l₈) ∷ ‵ (fat fullShare (tyArray tyR 600) l₇ 0 (only (array-vals (LL.vals R.the-type R′.the-laws) readings))) ∷ ‵ (fdies (tyArray tyR 600) l₇) ∷ ‵ (fat fullShare (sliceTy (tyRef (named 4) mut (tyInt w32))) l₆ 0 v-daily) ∷ ‵ (fdies (sliceTy (tyRef (named 4) mut (tyInt w32))) l₆) ∷ ‵ (fat fullShare (sliceTy (tyRef (named 3) mut (tyInt w16))) l₅ 0 v-slots) ∷ ‵ (fdies (sliceTy (tyRef (named 3) mut (tyInt w16))) l₅) ∷ ‵ (fat fullShare (sliceTy (tyRef (named 2) mut (tyInt w32))) l₄ 0 v-far) ∷ ‵ (fdies (sliceTy (tyRef (named 2) mut (tyInt w32))) l₄) ∷ ‵ (fat fullShare (sliceTy (tyRef (named 1) mut (tyInt w32))) l₃ 0 v-near) ∷ ‵ (fdies (sliceTy (tyRef (named 1) mut (tyInt w32))) l₃) ∷ ‵ (fat fullShare (sliceTy (tyRef (named 0) imm (tyInt w8))) l₂ 0 v-line) ∷ ‵ (fdies (sliceTy (tyRef (named 0) imm (tyInt w8))) l₂) ∷ ‵ (fat fullShare tyT l₁ 0 (LL.val T.the-type T′.the-laws rec)) ∷ ‵ (fdies tyT l₁) ∷ ‵ (froom tyK l₀ 0) ∷ ‵ (fdies tyK l₀) ∷ []) (runs C Λ (En l₀ l₁ l₂ l₃ l₄ l₅ l₆ l₇ l₈ l₉ l₁₀ l₁₁ l₁₂ l₁₃ l₁₄ l₁₅ l₁₆ l₁₇ l₁₈ l₁₉ l₂₀ l₂₁) pieces.t-13 (atRet (En l₀ l₁ l₂ l₃ l₄ l₅ l₆ l₇ l₈ l₉ l₁₀ l₁₁ l₁₂ l₁₃ l₁₄ l₁₅ l₁₆ l₁₇ l₁₈ l₁₉ l₂₀ l₂₁) Post))
       after-a-line r w near′ far′ slots′ daily′ readings′ is e is-own l-near l-far l-slots l-daily =
           assigns ! (of-opd ! (load ! (from ! (stop !)) (look ! 0 refl))) (from ! (stop !)) (init ! 13 refl (array-typed R.the-row (LL.lawful R.the-type R′.the-laws 𝓤 H A W .typed) 600 readings′ _ is-own .0)) $
           -- `with_readings`
           nothing ! $ use1 W (raw (Packed 𝓤 H A mem run .pre (to-with-readings r w readings′))) (goes-with-readings r w readings′ is is-own) $
           calls-at ! fm (Packed 𝓤 H A mem run) known-with-readings (to-with-readings r w readings′) (and-then ! (load ! (from ! (stop !)) (look ! 36 refl)) (and-then ! (load ! (from ! (stop !)) (look ! 14 refl)) (no-more !))) (λ w₂.
-          use1 W (later (some (λ (r₂ : Kept). ((‵ ftrue) ⊛ ‵ (K.the-row .own r₂ (w₂ ∷ []))) ⊛ raw (ensured 𝓤 H A with-readings.ended (with-readings.clauses 𝓤 H A mem run) tt (r, (readings′, tt)) tt r₂)))) (id⊢ 𝓤 _) $ await ! tt $ pick ! (λ r₂.
-          split ! $ move ! (1 ∷ []) $ use1 W (some (λ (ms₂ : Unit {0} × (Unit {0} × Unit {0})). ‵ (lasts with-readings.ended tt (r, (readings′, tt)) ms₂) ⊛ raw (fact 𝓤 (r₂ ≡ keptWith r readings′)))) (id⊢ 𝓤 _) $ pick ! (λ ms₂.
-          split ! $ move ! (1 ∷ []) $ heard ! (r₂ ≡ keptWith r readings′) (λ e₂. fsplit ! $ drop ! $ fsplit ! $ drop ! $
+          use1 W (later (some (λ (r₂ : OwnResult). ((‵ ftrue) ⊛ ‵ (K.the-row .own r₂ (w₂ ∷ []))) ⊛ raw (ensured 𝓤 H A with-readings.ended (with-readings.clauses 𝓤 H A mem run) tt (r, (readings′, tt)) tt r₂)))) (id⊢ 𝓤 _) $ await ! tt $ pick ! (λ r₂.
+          split ! $ move ! (1 ∷ []) $ use1 W (some (λ (ms₂ : Unit {0} × (Unit {0} × Unit {0})). ‵ (lasts with-readings.ended tt (r, (readings′, tt)) ms₂) ⊛ raw (fact 𝓤 (r₂ ≡ ownResultOf r readings′)))) (id⊢ 𝓤 _) $ pick ! (λ ms₂.
+          split ! $ move ! (1 ∷ []) $ heard ! (r₂ ≡ ownResultOf r readings′) (λ e₂. fsplit ! $ drop ! $ fsplit ! $ drop ! $
           drop ! $ split ! $ move ! (1 ∷ []) $ peeks ! K.the-row (Is (K.the-row)) (shows 𝓤 H A (K.the-row)) r₂ (w₂ ∷ []) (λ is₂. land ! (from ! (stop !)) (init ! 56 refl (LL.lawful K.the-type K′.the-laws 𝓤 H A W .typed r₂ _ is₂ .0)) $ drop ! $ drop ! $
           after-with-readings r w near′ far′ slots′ daily′ readings′ is e is-own l-near l-far l-slots l-daily r₂ w₂ is₂ e₂)))))
 
@@ -217,9 +217,9 @@ module _ {M : Type 1} (𝓤 : URA M) (H : Heap 𝓤) (A : Atoms 𝓤) (W : Given
           -- `Record::line`
           move ! (3 ∷ 4 ∷ 5 ∷ 6 ∷ 7 ∷ 2 ∷ 8 ∷ 10 ∷ 11 ∷ 12 ∷ 13 ∷ 14 ∷ 0 ∷ 16 ∷ []) $ group ! 14 $ use1 W (raw (Line 𝓤 H A mem run .pre (to-a-line l₉ ν γ))) (goes-a-line l₉ ν γ) $
           calls-at ! fm (Line 𝓤 H A mem run) known-a-line (to-a-line l₉ ν γ) (and-then ! (load ! (from ! (stop !)) (look ! 43 refl)) (and-then ! (load ! (from ! (stop !)) (look ! 41 refl)) (and-then ! (load ! (from ! (stop !)) (look ! 22 refl)) (and-then ! (load ! (from ! (stop !)) (look ! 18 refl)) (and-then ! (load ! (from ! (stop !)) (look ! 14 refl)) (and-then ! (load ! (from ! (stop !)) (look ! 10 refl)) (and-then ! (load ! (from ! (stop !)) (look ! 6 refl)) (and-then ! (load ! (from ! (stop !)) (look ! 29 refl)) (no-more !))))))))) (λ w.
-          use1 W (later (some (λ (r : Opened). ((‵ (flft κ₀ q₀) ⊛ ‵ (flft κ₁ q₁) ⊛ ‵ (flft κ₂ q₂) ⊛ ‵ (flft κ₃ q₃) ⊛ ‵ (flft κ₄ q₄) ⊛ ‵ (flft (ν ∷ []) fullShare) ⊛ ‵ (flft κ₅ q₅) ⊛ ‵ ftrue) ⊛ ‵ (O.the-row .own r (w ∷ []))) ⊛ raw (ensured 𝓤 H A a-line.ended (a-line.clauses 𝓤 H A mem run) (κ₀, (κ₁, (κ₂, (κ₃, (κ₄, ((ν ∷ []), (κ₅, tt))))))) (rec, (line, (near, (far, (slots, (daily, ((at-own l₉ γ readings), (curve, tt)))))))) tt r)))) (id⊢ 𝓤 _) $ await ! tt $ pick ! (λ r.
-          split ! $ move ! (1 ∷ []) $ use1 W (some (λ (ms : Unit {0} × (Unit {0} × (List ℕ × (List ℕ × (List ℕ × (List ℕ × (List Reading × (Unit {0} × Unit {0})))))))). ‵ (lasts a-line.ended (κ₀, (κ₁, (κ₂, (κ₃, (κ₄, ((ν ∷ []), (κ₅, tt))))))) (rec, (line, (near, (far, (slots, (daily, ((at-own l₉ γ readings), (curve, tt)))))))) ms) ⊛ raw (fact 𝓤 (handsBack r (world (ms .1 .1 .0) (ms .1 .1 .1 .0) (ms .1 .1 .1 .1 .0) (ms .1 .1 .1 .1 .1 .0) (seen (ms .1 .1 .1 .1 .1 .1 .0)) (curve .now)) ≡ lineOf (view rec) (line .now) (world (near .now) (far .now) (slots .now) (daily .now) (seen readings) (curve .now)))))) (id⊢ 𝓤 _) $ pick ! (λ ms.
-          split ! $ move ! (1 ∷ []) $ heard ! (handsBack r (world (ms .1 .1 .0) (ms .1 .1 .1 .0) (ms .1 .1 .1 .1 .0) (ms .1 .1 .1 .1 .1 .0) (seen (ms .1 .1 .1 .1 .1 .1 .0)) (curve .now)) ≡ lineOf (view rec) (line .now) (world (near .now) (far .now) (slots .now) (daily .now) (seen readings) (curve .now))) (λ e. fsplit ! $ drop ! $ fsplit ! $ drop ! $ fsplit ! $ fsplit ! $ move ! (1 ∷ []) $ feqL ! (λ l-near. move ! (1 ∷ []) $ fsplit ! $ fsplit ! $ move ! (1 ∷ []) $ feqL ! (λ l-far. move ! (1 ∷ []) $ fsplit ! $ fsplit ! $ move ! (1 ∷ []) $ feqL ! (λ l-slots. move ! (1 ∷ []) $ fsplit ! $ fsplit ! $ move ! (1 ∷ []) $ feqL ! (λ l-daily. move ! (1 ∷ []) $ fsplit ! $ fsplit ! $ move ! (1 ∷ []) $ feqL ! (λ l-own. move ! (1 ∷ []) $ fsplit ! $ drop ! $
+          use1 W (later (some (λ (r : CallResult). ((‵ (flft κ₀ q₀) ⊛ ‵ (flft κ₁ q₁) ⊛ ‵ (flft κ₂ q₂) ⊛ ‵ (flft κ₃ q₃) ⊛ ‵ (flft κ₄ q₄) ⊛ ‵ (flft (ν ∷ []) fullShare) ⊛ ‵ (flft κ₅ q₅) ⊛ ‵ ftrue) ⊛ ‵ (O.the-row .own r (w ∷ []))) ⊛ raw (ensured 𝓤 H A a-line.ended (a-line.clauses 𝓤 H A mem run) (κ₀, (κ₁, (κ₂, (κ₃, (κ₄, ((ν ∷ []), (κ₅, tt))))))) (rec, (line, (near, (far, (slots, (daily, ((at-own l₉ γ readings), (curve, tt)))))))) tt r)))) (id⊢ 𝓤 _) $ await ! tt $ pick ! (λ r.
+          split ! $ move ! (1 ∷ []) $ use1 W (some (λ (ms : Unit {0} × (Unit {0} × (List ℕ × (List ℕ × (List ℕ × (List ℕ × (List Reading × (Unit {0} × Unit {0})))))))). ‵ (lasts a-line.ended (κ₀, (κ₁, (κ₂, (κ₃, (κ₄, ((ν ∷ []), (κ₅, tt))))))) (rec, (line, (near, (far, (slots, (daily, ((at-own l₉ γ readings), (curve, tt)))))))) ms) ⊛ raw (fact 𝓤 (callView r (lentBlocks (ms .1 .1 .0) (ms .1 .1 .1 .0) (ms .1 .1 .1 .1 .0) (ms .1 .1 .1 .1 .1 .0) (readingsView (ms .1 .1 .1 .1 .1 .1 .0)) (curve .now)) ≡ lineOf (view rec) (line .now) (lentBlocks (near .now) (far .now) (slots .now) (daily .now) (readingsView readings) (curve .now)))))) (id⊢ 𝓤 _) $ pick ! (λ ms.
+          split ! $ move ! (1 ∷ []) $ heard ! (callView r (lentBlocks (ms .1 .1 .0) (ms .1 .1 .1 .0) (ms .1 .1 .1 .1 .0) (ms .1 .1 .1 .1 .1 .0) (readingsView (ms .1 .1 .1 .1 .1 .1 .0)) (curve .now)) ≡ lineOf (view rec) (line .now) (lentBlocks (near .now) (far .now) (slots .now) (daily .now) (readingsView readings) (curve .now))) (λ e. fsplit ! $ drop ! $ fsplit ! $ drop ! $ fsplit ! $ fsplit ! $ move ! (1 ∷ []) $ feqL ! (λ l-near. move ! (1 ∷ []) $ fsplit ! $ fsplit ! $ move ! (1 ∷ []) $ feqL ! (λ l-far. move ! (1 ∷ []) $ fsplit ! $ fsplit ! $ move ! (1 ∷ []) $ feqL ! (λ l-slots. move ! (1 ∷ []) $ fsplit ! $ fsplit ! $ move ! (1 ∷ []) $ feqL ! (λ l-daily. move ! (1 ∷ []) $ fsplit ! $ fsplit ! $ move ! (1 ∷ []) $ feqL ! (λ l-own. move ! (1 ∷ []) $ fsplit ! $ drop ! $
           drop ! $ move ! (5 ∷ []) $ split ! $ move ! (1 ∷ []) $ peeks ! O.the-row (Is (O.the-row)) (shows 𝓤 H A (O.the-row)) r (w ∷ []) (λ is. land ! (from ! (stop !)) (init ! 32 refl (LL.lawful O.the-type O′.the-laws 𝓤 H A W .typed r _ is .0)) $ drop ! $ split ! $ move ! (1 ∷ []) $ split ! $ move ! (1 ∷ []) $ split ! $ move ! (1 ∷ []) $ split ! $ move ! (1 ∷ []) $ split ! $ move ! (1 ∷ []) $ split ! $ move ! (1 ∷ []) $ split ! $ move ! (1 ∷ []) $ drop ! $
           -- and taken back
           move ! (1 ∷ []) $ lft-end ! tt $ move ! (0 ∷ 12 ∷ 7 ∷ []) $ use3 W (later (‵ (fat fullShare (tyArray tyR 600) l₉ 0 (only (array-vals (LL.vals R.the-type R′.the-laws) (ms .1 .1 .1 .1 .1 .1 .0)))) ⊛ ‵ ((Array R.the-row 600) .own (ms .1 .1 .1 .1 .1 .1 .0) (array-vals (LL.vals R.the-type R′.the-laws) (ms .1 .1 .1 .1 .1 .1 .0))))) (gives-back 𝓤 H A W R.the-row 600 (LL.vals R.the-type R′.the-laws) (LL.tells R.the-type R′.the-laws) (ν ∷ []) γ (ms .1 .1 .1 .1 .1 .1 .0) l₉) $ await ! tt $ split ! $ move ! (1 ∷ []) $ peeks ! (Array R.the-row 600) (Is (Array R.the-row 600)) (shows 𝓤 H A (Array R.the-row 600)) (ms .1 .1 .1 .1 .1 .1 .0) (array-vals (LL.vals R.the-type R′.the-laws) (ms .1 .1 .1 .1 .1 .1 .0)) (λ is-own. drop ! $
@@ -234,7 +234,7 @@ module _ {M : Type 1} (𝓤 : URA M) (H : Heap 𝓤) (A : Atoms 𝓤) (W : Given
         begun l₀ l₁ l₂ l₃ l₄ l₅ l₆ l₇ l₈ l₉ l₁₀ l₁₁ l₁₂ l₁₃ l₁₄ l₁₅ l₁₆ l₁₇ l₁₈ l₁₉ l₂₀ l₂₁))))))))))))))))))))))
 
 module _ {M : Type 1} (𝓤 : URA M) (H : Heap 𝓤) (A : Atoms 𝓤) (W : Given 𝓤 H A) (mem : Memory → SProp 𝓤) (run : Routine → Fun 𝓤) where
-  walks : (C : Calls 𝓤 H) (Λ : Loops 𝓤 H) → FmC 𝓤 H (W .laws) C → Triple 𝓤 (C #site·Record·line) (Line 𝓤 H A mem run) → Triple 𝓤 (C #own-calls·packing·with-readings) (Packed 𝓤 H A mem run) → Walks 𝓤 H A f.ended stayed (WpFn 𝓤 H C Λ code.function) (f.clauses 𝓤 H A mem run)
+  walks : (C : Calls 𝓤 H) (Λ : Loops 𝓤 H) → FmC 𝓤 H (W .laws) C → Triple 𝓤 (C #record-calls·Record·line) (Line 𝓤 H A mem run) → Triple 𝓤 (C #own-calls·packing·with-readings) (Packed 𝓤 H A mem run) → Walks 𝓤 H A f.ended stayed (WpFn 𝓤 H C Λ code.function) (f.clauses 𝓤 H A mem run)
   walks C Λ fm known-a-line known-with-readings = walked 𝓤 H A f.ended stayed (f.clauses 𝓤 H A mem run) (WpFn 𝓤 H C Λ code.function)
       (λ κs. (LL.vals T.the-type T′.the-laws, (slice-vals, (slice-vals, (slice-vals, (slice-vals, (slice-vals, (array-vals (LL.vals R.the-type R′.the-laws), (slice-vals, tt)))))))))
       (λ κs. (LL.tells T.the-type T′.the-laws, (shr-slice-tells (named 0) (κs .0) u8, (mut-slice-tells (named 1) (κs .1 .0) u32, (mut-slice-tells (named 2) (κs .1 .1 .0) u32, (mut-slice-tells (named 3) (κs .1 .1 .1 .0) u16, (mut-slice-tells (named 4) (κs .1 .1 .1 .1 .0) u32, (array-tells R.the-row (LL.vals R.the-type R′.the-laws) (LL.tells R.the-type R′.the-laws) 600, (shr-slice-tells (named 5) (κs .1 .1 .1 .1 .1 .0) u64, tt)))))))))
@@ -242,7 +242,7 @@ module _ {M : Type 1} (𝓤 : URA M) (H : Heap 𝓤) (A : Atoms 𝓤) (W : Given
       (a .0) (a .1 .0) (a .1 .1 .0) (a .1 .1 .1 .0) (a .1 .1 .1 .1 .0) (a .1 .1 .1 .1 .1 .0) (a .1 .1 .1 .1 .1 .1 .0) (a .1 .1 .1 .1 .1 .1 .1 .0)
       (are .0) (are .1 .0 .0 .1) (are .1 .1 .0 .0 .1) (are .1 .1 .1 .0 .0 .1) (are .1 .1 .1 .1 .0 .0 .1) (are .1 .1 .1 .1 .1 .0 .0 .1) (are .1 .1 .1 .1 .1 .1 .0) (are .1 .1 .1 .1 .1 .1 .1 .0 .0 .1) C Λ fm known-a-line known-with-readings))
 
-meets : {M : Type 1} (𝓤 : URA M) (H : Heap 𝓤) (A : Atoms 𝓤) → Given 𝓤 H A → (mem : Memory → SProp 𝓤) (run : Routine → Fun 𝓤) (𝓣 : Tables 𝓤 H) → Triple 𝓤 (𝓣 .C #site·Record·line) (Line 𝓤 H A mem run) → Triple 𝓤 (𝓣 .C #own-calls·packing·with-readings) (Packed 𝓤 H A mem run)
+meets : {M : Type 1} (𝓤 : URA M) (H : Heap 𝓤) (A : Atoms 𝓤) → Given 𝓤 H A → (mem : Memory → SProp 𝓤) (run : Routine → Fun 𝓤) (𝓣 : Tables 𝓤 H) → Triple 𝓤 (𝓣 .C #record-calls·Record·line) (Line 𝓤 H A mem run) → Triple 𝓤 (𝓣 .C #own-calls·packing·with-readings) (Packed 𝓤 H A mem run)
     → Meets 𝓤 H A f.signature (WpFn 𝓤 H (𝓣 .C) (𝓣 .Λ) code.function) (f.spec 𝓤 H A mem run)
 meets 𝓤 H A W mem run 𝓣 known-a-line known-with-readings =
     walk-meets 𝓤 H A f.ended stayed W
@@ -255,5 +255,5 @@ line-own-spec 𝓤 H 𝓜 𝓖 𝓡 =
     entered 𝓤 H (tripleOf 𝓤 H (𝓖 .A) f.signature (f.spec 𝓤 H (𝓖 .A) (𝓜 .mem) (𝓡 .run)))
     (tables 𝓤 H 𝓜 𝓡 code.env .C) (tables 𝓤 H 𝓜 𝓡 code.env .Λ) #own-calls·lines·line-own code.function (code.unfolded 𝓤 H 𝓜 𝓡)
     (meets 𝓤 H (𝓖 .A) (givenOf 𝓤 H 𝓜 𝓖) (𝓜 .mem) (𝓡 .run) (tablesOf 𝓤 H 𝓜 (tables 𝓤 H 𝓜 𝓡 code.env))
-    (cited 𝓤 H (Line 𝓤 H (𝓖 .A) (𝓜 .mem) (𝓡 .run)) 𝓜 𝓡 code.env #site·Record·line a-line-def.routine code.calls-site·Record·line (a-line-thm.met 𝓤 H 𝓜 𝓖 𝓡))
+    (cited 𝓤 H (Line 𝓤 H (𝓖 .A) (𝓜 .mem) (𝓡 .run)) 𝓜 𝓡 code.env #record-calls·Record·line a-line-def.routine code.calls-record-calls·Record·line (a-line-thm.met 𝓤 H 𝓜 𝓖 𝓡))
     (cited 𝓤 H (Packed 𝓤 H (𝓖 .A) (𝓜 .mem) (𝓡 .run)) 𝓜 𝓡 code.env #own-calls·packing·with-readings with-readings-def.routine code.calls-own-calls·packing·with-readings (with-readings-thm.met 𝓤 H 𝓜 𝓖 𝓡)))

@@ -41,29 +41,29 @@ use denote.Triple.Table.{entered, cited}
 use denote.Triple.Walked.{says, Stays, gave-slice, stay-none, walkOf, goes-gave-slice, goes-none, Walks, ends-at, walked, walk-meets}
 use denote.Exit.{yes}
 use denote.Struct.Laws as LL
-use Rattle.readings.specs.Readings.{seen}
-use Rattle.readings.specs.Columns.{world}
+use Rattle.readings.specs.Readings.{readingsView}
+use Rattle.readings.specs.Columns.{lentBlocks}
 use Rattle.meaning.specs.Calls.{openingOf}
-use Rattle.site.specs.Views.{view, handsBack}
-use Rattle.own_calls.specs.Own.{keptWith}
-use Rattle.readings.proofs.Lends.{Lent, lends, gives-back}
-use Rattle.site.specs.declared.Record.{Record}
-use Rattle.site.specs.declared.Opened.{Opened}
+use Rattle.record_calls.specs.Views.{view, callView}
+use Rattle.own_calls.specs.Own.{ownResultOf}
+use Rattle.readings.proofs.LentArrays.{Lent, lends, gives-back}
+use Rattle.record_calls.specs.declared.Record.{Record}
+use Rattle.record_calls.specs.declared.CallResult.{CallResult}
 use Rattle.readings.specs.declared.Reading.{Reading}
-use Rattle.own_calls.specs.declared.Kept.{Kept}
-use Rattle.site.proofs.Record as T
-use Rattle.site.proofs.Record.Laws as T′
-use Rattle.site.proofs.Opened as O
-use Rattle.site.proofs.Opened.Laws as O′
+use Rattle.own_calls.specs.declared.OwnResult.{OwnResult}
+use Rattle.record_calls.proofs.Record as T
+use Rattle.record_calls.proofs.Record.Laws as T′
+use Rattle.record_calls.proofs.CallResult as O
+use Rattle.record_calls.proofs.CallResult.Laws as O′
 use Rattle.readings.proofs.Reading as R
 use Rattle.readings.proofs.Reading.Laws as R′
-use Rattle.own_calls.proofs.Kept as K
-use Rattle.own_calls.proofs.Kept.Laws as K′
-use Rattle.readings.proofs.Gone.{full, gone}
-use Rattle.site.proofs.Record.open as opening
-use Rattle.site.proofs.Record.open.Symbol as opening-def
-use Rattle.site.proofs.Record.open.Symbol.{name as #site·Record·open}
-use Rattle.site.proofs.Record.open.Met as opening-thm
+use Rattle.own_calls.proofs.OwnResult as K
+use Rattle.own_calls.proofs.OwnResult.Laws as K′
+use Rattle.readings.proofs.WalkEnds.{full, gone}
+use Rattle.record_calls.proofs.Record.open as opening
+use Rattle.record_calls.proofs.Record.open.Symbol as opening-def
+use Rattle.record_calls.proofs.Record.open.Symbol.{name as #record-calls·Record·open}
+use Rattle.record_calls.proofs.Record.open.Met as opening-thm
 use Rattle.own_calls.proofs.packing.with_readings as with-readings
 use Rattle.own_calls.proofs.packing.with_readings.Symbol as with-readings-def
 use Rattle.own_calls.proofs.packing.with_readings.Symbol.{name as #own-calls·packing·with-readings}
@@ -160,18 +160,18 @@ module _ {M : Type 1} (𝓤 : URA M) (H : Heap 𝓤) (A : Atoms 𝓤) (W : Given
       qed W (‵ (flft κ₀ q₀) ∷ ‵ (flft κ₁ q₁) ∷ ‵ (flft κ₂ q₂) ∷ ‵ (flft κ₃ q₃) ∷ ‵ (flft (ν ∷ []) fullShare) ∷ ‵ (flft κ₄ q₄) ∷ ‵ Own-near ∷ ‵ Own-far ∷ ‵ Own-slots ∷ ‵ Own-daily ∷ ‵ (MutSlice erased (ν ∷ []) R.the-row .own (at-own l₈ γ readings) ((sliceVal (l₈, 0) 600) ∷ [])) ∷ ‵ Own-curve ∷ []) ∵ nothing ! $ move ! (12 ∷ 0 ∷ []) $ fjoin ! $ move ! (11 ∷ 0 ∷ []) $ fjoin ! $ move ! (10 ∷ 0 ∷ []) $ fjoin ! $ move ! (9 ∷ 0 ∷ []) $ fjoin ! $ move ! (8 ∷ 0 ∷ []) $ fjoin ! $ move ! (7 ∷ 0 ∷ []) $ fjoin ! $ owned ! T.the-row (Is T.the-row) (LL.makes T.the-type T′.the-plain 𝓤 H A) (rec) _ rec-is $ fjoin ! $ nothing ! $ move ! (7 ∷ 0 ∷ []) $ join ! $ move ! (6 ∷ 0 ∷ []) $ join ! $ move ! (5 ∷ 0 ∷ []) $ join ! $ move ! (4 ∷ 0 ∷ []) $ join ! $ move ! (3 ∷ 0 ∷ []) $ join ! $ move ! (2 ∷ 0 ∷ []) $ join ! $ join ! $ frame ! $ done !
 
   -- `with_readings`: what it is passed, and that the caller has what it asks
-  abbrev to-with-readings : (r : Opened) (w : Val) (readings′ : List Reading) → Packed 𝓤 H A mem run .Ghost
+  abbrev to-with-readings : (r : CallResult) (w : Val) (readings′ : List Reading) → Packed 𝓤 H A mem run .Ghost
   to-with-readings r w readings′ = ((tt, tt, tt, (r, (readings′, tt)), (w ∷ [], (array-vals (LL.vals R.the-type R′.the-laws) (readings′), tt))), tt)
 
-  goes-with-readings : (r : Opened) (w : Val) (readings′ : List Reading) → (is : Is O.the-row r (w ∷ [])) (is-own : Is (Array R.the-row 600) readings′ (array-vals (LL.vals R.the-type R′.the-laws) readings′)) → ent 𝓤 (⋆ 𝓤 H A (‵ ftrue ∷ [])) (Packed 𝓤 H A mem run .pre (to-with-readings r w readings′))
+  goes-with-readings : (r : CallResult) (w : Val) (readings′ : List Reading) → (is : Is O.the-row r (w ∷ [])) (is-own : Is (Array R.the-row 600) readings′ (array-vals (LL.vals R.the-type R′.the-laws) readings′)) → ent 𝓤 (⋆ 𝓤 H A (‵ ftrue ∷ [])) (Packed 𝓤 H A mem run .pre (to-with-readings r w readings′))
   goes-with-readings r w readings′ is is-own =
       qed W (‵ ftrue ∷ []) ∵ drop ! $ nothing ! $ owned ! (Array R.the-row 600) (Is (Array R.the-row 600)) (array-makes 𝓤 H A W R.the-row (LL.makes R.the-type R′.the-plain 𝓤 H A) 600) (readings′) _ is-own $ fjoin ! $ owned ! O.the-row (Is O.the-row) (LL.makes O.the-type O′.the-plain 𝓤 H A) (r) _ is $ fjoin ! $ nothing ! $ join ! $ frame ! $ done !
 
-  exits : (r : Opened) (readings′ : List Reading) (r₂ : Kept) (w₂ : Val) (near′ : List ℕ) (far′ : List ℕ) (slots′ : List ℕ) (daily′ : List ℕ) (curve′ : List ℕ) → Is K.the-row r₂ (w₂ ∷ []) → handsBack r (world near′ far′ slots′ daily′ (seen readings′) curve′) ≡ openingOf (view rec) (world (near .now) (far .now) (slots .now) (daily .now) (seen readings) (curve .now)) → r₂ ≡ keptWith r readings′ → length near′ ≡ length (near .now) → length far′ ≡ length (far .now) → length slots′ ≡ length (slots .now) → length daily′ ≡ length (daily .now) → length curve′ ≡ length (curve .now)
+  exits : (r : CallResult) (readings′ : List Reading) (r₂ : OwnResult) (w₂ : Val) (near′ : List ℕ) (far′ : List ℕ) (slots′ : List ℕ) (daily′ : List ℕ) (curve′ : List ℕ) → Is K.the-row r₂ (w₂ ∷ []) → callView r (lentBlocks near′ far′ slots′ daily′ (readingsView readings′) curve′) ≡ openingOf (view rec) (lentBlocks (near .now) (far .now) (slots .now) (daily .now) (readingsView readings) (curve .now)) → r₂ ≡ ownResultOf r readings′ → length near′ ≡ length (near .now) → length far′ ≡ length (far .now) → length slots′ ≡ length (slots .now) → length daily′ ≡ length (daily .now) → length curve′ ≡ length (curve .now)
       → ent 𝓤 (⋆ 𝓤 H A (‵ (flft κ₀ q₀) ∷ ‵ (flft κ₁ q₁) ∷ ‵ (flft κ₂ q₂) ∷ ‵ (flft κ₃ q₃) ∷ ‵ (flft κ₄ q₄) ∷ ‵ (finally u32 (near .name) near′) ∷ ‵ (finally u32 (far .name) far′) ∷ ‵ (finally u16 (slots .name) slots′) ∷ ‵ (finally u32 (daily .name) daily′) ∷ ‵ (finally u64 (curve .name) curve′) ∷ [])) (Post w₂)
   exits r readings′ r₂ w₂ near′ far′ slots′ daily′ curve′ is₂ e e₂ l-near l-far l-slots l-daily l-curve =
       qed W (‵ (flft κ₀ q₀) ∷ ‵ (flft κ₁ q₁) ∷ ‵ (flft κ₂ q₂) ∷ ‵ (flft κ₃ q₃) ∷ ‵ (flft κ₄ q₄) ∷ ‵ (finally u32 (near .name) near′) ∷ ‵ (finally u32 (far .name) far′) ∷ ‵ (finally u16 (slots .name) slots′) ∷ ‵ (finally u32 (daily .name) daily′) ∷ ‵ (finally u64 (curve .name) curve′) ∷ []) ∵
-      suffices ! _ (ends-at 𝓤 H A f.ended stayed (f.clauses 𝓤 H A mem run) W (((κ₀, (κ₁, (κ₂, (κ₃, (κ₄, tt))))), (q₀, (q₁, (q₂, (q₃, (q₄, tt))))), tt, a, at), tt) _ r₂ (tt, (near′, (far′, (slots′, (daily′, (tt, (curve′, tt))))))) (tt, (l-near, (l-far, (l-slots, (l-daily, (tt, (l-curve, tt)))))))) $ says ! (ap (λ (k : Kept). handsBack (k .opened) (world near′ far′ slots′ daily′ (seen (k .readings)) curve′)) e₂ ∙ e) $
+      suffices ! _ (ends-at 𝓤 H A f.ended stayed (f.clauses 𝓤 H A mem run) W (((κ₀, (κ₁, (κ₂, (κ₃, (κ₄, tt))))), (q₀, (q₁, (q₂, (q₃, (q₄, tt))))), tt, a, at), tt) _ r₂ (tt, (near′, (far′, (slots′, (daily′, (tt, (curve′, tt))))))) (tt, (l-near, (l-far, (l-slots, (l-daily, (tt, (l-curve, tt)))))))) $ says ! (ap (λ (k : OwnResult). callView (k .call) (lentBlocks near′ far′ slots′ daily′ (readingsView (k .readings)) curve′)) e₂ ∙ e) $
       nothing ! $ move ! (5 ∷ 0 ∷ []) $ join ! $ move ! (4 ∷ 0 ∷ []) $ join ! $ move ! (3 ∷ 0 ∷ []) $ join ! $ move ! (2 ∷ 0 ∷ []) $ join ! $ move ! (1 ∷ 0 ∷ []) $ join ! $ frame ! $
       owned ! K.the-row (Is K.the-row) (LL.makes K.the-type K′.the-plain 𝓤 H A) (r₂) _ is₂ $ nothing ! $ move ! (6 ∷ 0 ∷ []) $ fjoin ! $ owned ! (Array R.the-row 600) (Is (Array R.the-row 600)) (array-makes 𝓤 H A W R.the-row (LL.makes R.the-type R′.the-plain 𝓤 H A) 600) (readings) _ readings-is $ fjoin ! $ move ! (5 ∷ 0 ∷ []) $ fjoin ! $ move ! (4 ∷ 0 ∷ []) $ fjoin ! $ move ! (3 ∷ 0 ∷ []) $ fjoin ! $ move ! (2 ∷ 0 ∷ []) $ fjoin ! $ owned ! T.the-row (Is T.the-row) (LL.makes T.the-type T′.the-plain 𝓤 H A) (rec) _ rec-is $ fjoin ! $ done !
 
@@ -180,26 +180,26 @@ module _ {M : Type 1} (𝓤 : URA M) (H : Heap 𝓤) (A : Atoms 𝓤) (W : Given
     En = (tyK, l₀) ∷ (tyT, l₁) ∷ ((sliceTy (tyRef (named 0) mut (tyInt w32))), l₂) ∷ ((sliceTy (tyRef (named 1) mut (tyInt w32))), l₃) ∷ ((sliceTy (tyRef (named 2) mut (tyInt w16))), l₄) ∷ ((sliceTy (tyRef (named 3) mut (tyInt w32))), l₅) ∷ ((tyArray tyR 600), l₆) ∷ ((sliceTy (tyRef (named 4) mut (tyInt w64))), l₇) ∷ ((tyArray tyR 600), l₈) ∷ (tyO, l₉) ∷ ((tyRef erased mut (tyInt w32)), l₁₀) ∷ ((sliceTy (tyRef erased mut (tyInt w32))), l₁₁) ∷ ((tyRef erased mut (tyInt w32)), l₁₂) ∷ ((sliceTy (tyRef erased mut (tyInt w32))), l₁₃) ∷ ((tyRef erased mut (tyInt w16)), l₁₄) ∷ ((sliceTy (tyRef erased mut (tyInt w16))), l₁₅) ∷ ((tyRef erased mut (tyInt w32)), l₁₆) ∷ ((sliceTy (tyRef erased mut (tyInt w32))), l₁₇) ∷ ((tyRef erased mut (tyArray (pointee (R.the-row .written)) 600)), l₁₈) ∷ ((sliceTy (tyRef erased mut (pointee (R.the-row .written)))), l₁₉) ∷ ((tyRef erased mut (tyInt w64)), l₂₀) ∷ ((sliceTy (tyRef erased mut (tyInt w64))), l₂₁) ∷ ((tyArray tyR 600), l₂₂) ∷ []
 
     -- the locals at the return, in the order in which they are freed
-    left : (w : Val) (r : Opened) (readings′ : List Reading) (r₂ : Kept) (w₂ : Val) (near′ : List ℕ) (far′ : List ℕ) (slots′ : List ℕ) (daily′ : List ℕ) (curve′ : List ℕ) → Is K.the-row r₂ (w₂ ∷ []) → handsBack r (world near′ far′ slots′ daily′ (seen readings′) curve′) ≡ openingOf (view rec) (world (near .now) (far .now) (slots .now) (daily .now) (seen readings) (curve .now)) → r₂ ≡ keptWith r readings′ → length near′ ≡ length (near .now) → length far′ ≡ length (far .now) → length slots′ ≡ length (slots .now) → length daily′ ≡ length (daily .now) → length curve′ ≡ length (curve .now)
+    left : (w : Val) (r : CallResult) (readings′ : List Reading) (r₂ : OwnResult) (w₂ : Val) (near′ : List ℕ) (far′ : List ℕ) (slots′ : List ℕ) (daily′ : List ℕ) (curve′ : List ℕ) → Is K.the-row r₂ (w₂ ∷ []) → callView r (lentBlocks near′ far′ slots′ daily′ (readingsView readings′) curve′) ≡ openingOf (view rec) (lentBlocks (near .now) (far .now) (slots .now) (daily .now) (readingsView readings) (curve .now)) → r₂ ≡ ownResultOf r readings′ → length near′ ≡ length (near .now) → length far′ ≡ length (far .now) → length slots′ ≡ length (slots .now) → length daily′ ≡ length (daily .now) → length curve′ ≡ length (curve .now)
         → Sq W (full tyK l₀ w₂ (full tyT l₁ (LL.val T.the-type T′.the-laws rec) (full (sliceTy (tyRef (named 0) mut (tyInt w32))) l₂ v-near (full (sliceTy (tyRef (named 1) mut (tyInt w32))) l₃ v-far (full (sliceTy (tyRef (named 2) mut (tyInt w16))) l₄ v-slots (full (sliceTy (tyRef (named 3) mut (tyInt w32))) l₅ v-daily (full (tyArray tyR 600) l₆ (only (array-vals (LL.vals R.the-type R′.the-laws) readings)) (full (sliceTy (tyRef (named 4) mut (tyInt w64))) l₇ v-curve (full (tyArray tyR 600) l₈ (only (array-vals (LL.vals R.the-type R′.the-laws) readings′)) (full tyO l₉ w (full (tyRef erased mut (tyInt w32)) l₁₀ (vptr (near .ptr .0) (near .ptr .1)) (full (sliceTy (tyRef erased mut (tyInt w32))) l₁₁ v-near (full (tyRef erased mut (tyInt w32)) l₁₂ (vptr (far .ptr .0) (far .ptr .1)) (full (sliceTy (tyRef erased mut (tyInt w32))) l₁₃ v-far (full (tyRef erased mut (tyInt w16)) l₁₄ (vptr (slots .ptr .0) (slots .ptr .1)) (full (sliceTy (tyRef erased mut (tyInt w16))) l₁₅ v-slots (full (tyRef erased mut (tyInt w32)) l₁₆ (vptr (daily .ptr .0) (daily .ptr .1)) (full (sliceTy (tyRef erased mut (tyInt w32))) l₁₇ v-daily (full (tyRef erased mut (tyArray (pointee (R.the-row .written)) 600)) l₁₈ (vptr l₈ 0) (full (sliceTy (tyRef erased mut (pointee (R.the-row .written)))) l₁₉ (sliceVal (l₈, 0) 600) (full (tyRef erased mut (tyInt w64)) l₂₀ (vptr (curve .ptr .0) (curve .ptr .1)) (full (sliceTy (tyRef erased mut (tyInt w64))) l₂₁ v-curve (full (tyArray tyR 600) l₂₂ (only (array-vals (LL.vals R.the-type R′.the-laws) readings′)) (‵ (flft κ₀ q₀) ∷ ‵ (flft κ₁ q₁) ∷ ‵ (flft κ₂ q₂) ∷ ‵ (flft κ₃ q₃) ∷ ‵ (flft κ₄ q₄) ∷ ‵ (finally u32 (near .name) near′) ∷ ‵ (finally u32 (far .name) far′) ∷ ‵ (finally u16 (slots .name) slots′) ∷ ‵ (finally u32 (daily .name) daily′) ∷ ‵ (finally u64 (curve .name) curve′) ∷ [])))))))))))))))))))))))) (frees En (prop (Post w₂)))
     left w r readings′ r₂ w₂ near′ far′ slots′ daily′ curve′ is₂ e e₂ l-near l-far l-slots l-daily l-curve =
         gone ! $ gone ! $ gone ! $ gone ! $ gone ! $ gone ! $ gone ! $ gone ! $ gone ! $ gone ! $ gone ! $ gone ! $ gone ! $ gone ! $ gone ! $ gone ! $ gone ! $ gone ! $ gone ! $ gone ! $ gone ! $ gone ! $ gone ! $ free0 ! $ by ! (exits r readings′ r₂ w₂ near′ far′ slots′ daily′ curve′ is₂ e e₂ l-near l-far l-slots l-daily l-curve)
 
-  module _ (C : Calls 𝓤 H) (Λ : Loops 𝓤 H) (fm : FmC 𝓤 H (W .laws) C) (known-opening : Triple 𝓤 (C #site·Record·open) (Open 𝓤 H A mem run)) (known-with-readings : Triple 𝓤 (C #own-calls·packing·with-readings) (Packed 𝓤 H A mem run)) where
+  module _ (C : Calls 𝓤 H) (Λ : Loops 𝓤 H) (fm : FmC 𝓤 H (W .laws) C) (known-opening : Triple 𝓤 (C #record-calls·Record·open) (Open 𝓤 H A mem run)) (known-with-readings : Triple 𝓤 (C #own-calls·packing·with-readings) (Packed 𝓤 H A mem run)) where
     module _ (l₀ l₁ l₂ l₃ l₄ l₅ l₆ l₇ l₈ l₉ l₁₀ l₁₁ l₁₂ l₁₃ l₁₄ l₁₅ l₁₆ l₁₇ l₁₈ l₁₉ l₂₀ l₂₁ l₂₂ : ℕ) where
-      after-with-readings : (r : Opened) (w : Val) (near′ : List ℕ) (far′ : List ℕ) (slots′ : List ℕ) (daily′ : List ℕ) (readings′ : List Reading) (curve′ : List ℕ) (is : Is O.the-row r (w ∷ [])) (e : handsBack r (world near′ far′ slots′ daily′ (seen readings′) curve′) ≡ openingOf (view rec) (world (near .now) (far .now) (slots .now) (daily .now) (seen readings) (curve .now))) (is-own : Is (Array R.the-row 600) readings′ (array-vals (LL.vals R.the-type R′.the-laws) readings′)) (l-near : length near′ ≡ length (near .now)) (l-far : length far′ ≡ length (far .now)) (l-slots : length slots′ ≡ length (slots .now)) (l-daily : length daily′ ≡ length (daily .now)) (l-curve : length curve′ ≡ length (curve .now)) (r₂ : Kept) (w₂ : Val) (is₂ : Is K.the-row r₂ (w₂ ∷ [])) (e₂ : r₂ ≡ keptWith r readings′) → Sq W (‵ (fat fullShare (tyArray tyR 600) l₈ 0 (only (array-vals (LL.vals R.the-type R′.the-laws) readings′))) ∷ ‵ (flft κ₄ q₄) ∷ ‵ (flft κ₃ q₃) ∷ ‵ (flft κ₂ q₂) ∷ ‵ (flft κ₁ q₁) ∷ ‵ (flft κ₀ q₀) ∷ ‵ (finally u64 (curve .name) curve′) ∷ ‵ (finally u32 (daily .name) daily′) ∷ ‵ (finally u16 (slots .name) slots′) ∷ ‵ (finally u32 (far .name) far′) ∷ ‵ (finally u32 (near .name) near′) ∷ ‵ (fat fullShare (tyArray tyR 600) l₂₂ 0 (only (array-vals (LL.vals R.the-type R′.the-laws) readings′))) ∷ ‵ (fdies (tyArray tyR 600) l₂₂) ∷ ‵ (fat fullShare (sliceTy (tyRef erased mut (tyInt w64))) l₂₁ 0 v-curve) ∷ ‵ (fdies (sliceTy (tyRef erased mut (tyInt w64))) l₂₁) ∷ ‵ (fat fullShare (tyRef erased mut (tyInt w64)) l₂₀ 0 (vptr (curve .ptr .0) (curve .ptr .1))) ∷ ‵ (fdies (tyRef erased mut (tyInt w64)) l₂₀) ∷ ‵ (fat fullShare (sliceTy (tyRef erased mut (pointee (R.the-row .written)))) l₁₉ 0 (sliceVal (l₈, 0) 600)) ∷ ‵ (fdies (sliceTy (tyRef erased mut (pointee (R.the-row .written)))) l₁₉) ∷ ‵ (fat fullShare (tyRef erased mut (tyArray (pointee (R.the-row .written)) 600)) l₁₈ 0 (vptr l₈ 0)) ∷ ‵ (fdies (tyRef erased mut (tyArray (pointee (R.the-row .written)) 600)) l₁₈) ∷ ‵ (fat fullShare (sliceTy (tyRef erased mut (tyInt w32))) l₁₇ 0 v-daily) ∷ ‵ (fdies (sliceTy (tyRef erased mut (tyInt w32))) l₁₇) ∷ ‵ (fat fullShare (tyRef erased mut (tyInt w32)) l₁₆ 0 (vptr (daily .ptr .0) (daily .ptr .1))) ∷ ‵ (fdies (tyRef erased mut (tyInt w32)) l₁₆) ∷ ‵ (fat fullShare (sliceTy (tyRef erased mut (tyInt w16))) l₁₅ 0 v-slots) ∷ ‵ (fdies (sliceTy (tyRef erased mut (tyInt w16))) l₁₅) ∷ ‵ (fat fullShare (tyRef erased mut (tyInt w16)) l₁₄ 0 (vptr (slots .ptr .0) (slots .ptr .1))) ∷ ‵ (fdies (tyRef erased mut (tyInt w16)) l₁₄) ∷ ‵ (fat fullShare (sliceTy (tyRef erased mut (tyInt w32))) l₁₃ 0 v-far) ∷ ‵ (fdies (sliceTy (tyRef erased mut (tyInt w32))) l₁₃) ∷ ‵ (fat fullShare (tyRef erased mut (tyInt w32)) l₁₂ 0 (vptr (far .ptr .0) (far .ptr .1))) ∷ ‵ (fdies (tyRef erased mut (tyInt w32)) l₁₂) ∷ ‵ (fat fullShare (sliceTy (tyRef erased mut (tyInt w32))) l₁₁ 0 v-near) ∷ ‵ (fdies (sliceTy (tyRef erased mut (tyInt w32))) l₁₁) ∷ ‵ (fat fullShare (tyRef erased mut (tyInt w32)) l₁₀ 0 (vptr (near .ptr .0) (near .ptr .1))) ∷ ‵ (fdies (tyRef erased mut (tyInt w32)) l₁₀) ∷ ‵ (fat fullShare tyO l₉ 0 w) ∷ ‵ (fdies tyO l₉) ∷ ‵ (fdies (tyArray tyR 600) l₈) ∷ ‵ (fat fullShare (sliceTy (tyRef (named 4) mut (tyInt w64))) l₇ 0 v-curve) ∷ ‵ (fdies (sliceTy (tyRef (named 4) mut (tyInt w64))) l₇) ∷ ‵ (fat fullShare (tyArray tyR 600) l₆ 0 (only (array-vals (LL.vals R.the-type R′.the-laws) readings))) ∷ ‵ (fdies (tyArray tyR 600) l₆) ∷ ‵ (fat fullShare (sliceTy (tyRef (named 3) mut (tyInt w32))) l₅ 0 v-daily) ∷ ‵ (fdies (sliceTy (tyRef (named 3) mut (tyInt w32))) l₅) ∷ ‵ (fat fullShare (sliceTy (tyRef (named 2) mut (tyInt w16))) l₄ 0 v-slots) ∷ ‵ (fdies (sliceTy (tyRef (named 2) mut (tyInt w16))) l₄) ∷ ‵ (fat fullShare (sliceTy (tyRef (named 1) mut (tyInt w32))) l₃ 0 v-far) ∷ ‵ (fdies (sliceTy (tyRef (named 1) mut (tyInt w32))) l₃) ∷ ‵ (fat fullShare (sliceTy (tyRef (named 0) mut (tyInt w32))) l₂ 0 v-near) ∷ ‵ (fdies (sliceTy (tyRef (named 0) mut (tyInt w32))) l₂) ∷ ‵ (fat fullShare tyT l₁ 0 (LL.val T.the-type T′.the-laws rec)) ∷ ‵ (fdies tyT l₁) ∷ ‵ (fat fullShare tyK l₀ 0 w₂) ∷ ‵ (fdies tyK l₀) ∷ []) (runs C Λ (En l₀ l₁ l₂ l₃ l₄ l₅ l₆ l₇ l₈ l₉ l₁₀ l₁₁ l₁₂ l₁₃ l₁₄ l₁₅ l₁₆ l₁₇ l₁₈ l₁₉ l₂₀ l₂₁ l₂₂) pieces.t-17 (atRet (En l₀ l₁ l₂ l₃ l₄ l₅ l₆ l₇ l₈ l₉ l₁₀ l₁₁ l₁₂ l₁₃ l₁₄ l₁₅ l₁₆ l₁₇ l₁₈ l₁₉ l₂₀ l₂₁ l₂₂) Post))
+      after-with-readings : (r : CallResult) (w : Val) (near′ : List ℕ) (far′ : List ℕ) (slots′ : List ℕ) (daily′ : List ℕ) (readings′ : List Reading) (curve′ : List ℕ) (is : Is O.the-row r (w ∷ [])) (e : callView r (lentBlocks near′ far′ slots′ daily′ (readingsView readings′) curve′) ≡ openingOf (view rec) (lentBlocks (near .now) (far .now) (slots .now) (daily .now) (readingsView readings) (curve .now))) (is-own : Is (Array R.the-row 600) readings′ (array-vals (LL.vals R.the-type R′.the-laws) readings′)) (l-near : length near′ ≡ length (near .now)) (l-far : length far′ ≡ length (far .now)) (l-slots : length slots′ ≡ length (slots .now)) (l-daily : length daily′ ≡ length (daily .now)) (l-curve : length curve′ ≡ length (curve .now)) (r₂ : OwnResult) (w₂ : Val) (is₂ : Is K.the-row r₂ (w₂ ∷ [])) (e₂ : r₂ ≡ ownResultOf r readings′) → Sq W (‵ (fat fullShare (tyArray tyR 600) l₈ 0 (only (array-vals (LL.vals R.the-type R′.the-laws) readings′))) ∷ ‵ (flft κ₄ q₄) ∷ ‵ (flft κ₃ q₃) ∷ ‵ (flft κ₂ q₂) ∷ ‵ (flft κ₁ q₁) ∷ ‵ (flft κ₀ q₀) ∷ ‵ (finally u64 (curve .name) curve′) ∷ ‵ (finally u32 (daily .name) daily′) ∷ ‵ (finally u16 (slots .name) slots′) ∷ ‵ (finally u32 (far .name) far′) ∷ ‵ (finally u32 (near .name) near′) ∷ ‵ (fat fullShare (tyArray tyR 600) l₂₂ 0 (only (array-vals (LL.vals R.the-type R′.the-laws) readings′))) ∷ ‵ (fdies (tyArray tyR 600) l₂₂) ∷ ‵ (fat fullShare (sliceTy (tyRef erased mut (tyInt w64))) l₂₁ 0 v-curve) ∷ ‵ (fdies (sliceTy (tyRef erased mut (tyInt w64))) l₂₁) ∷ ‵ (fat fullShare (tyRef erased mut (tyInt w64)) l₂₀ 0 (vptr (curve .ptr .0) (curve .ptr .1))) ∷ ‵ (fdies (tyRef erased mut (tyInt w64)) l₂₀) ∷ ‵ (fat fullShare (sliceTy (tyRef erased mut (pointee (R.the-row .written)))) l₁₉ 0 (sliceVal (l₈, 0) 600)) ∷ ‵ (fdies (sliceTy (tyRef erased mut (pointee (R.the-row .written)))) l₁₉) ∷ ‵ (fat fullShare (tyRef erased mut (tyArray (pointee (R.the-row .written)) 600)) l₁₈ 0 (vptr l₈ 0)) ∷ ‵ (fdies (tyRef erased mut (tyArray (pointee (R.the-row .written)) 600)) l₁₈) ∷ ‵ (fat fullShare (sliceTy (tyRef erased mut (tyInt w32))) l₁₇ 0 v-daily) ∷ ‵ (fdies (sliceTy (tyRef erased mut (tyInt w32))) l₁₇) ∷ ‵ (fat fullShare (tyRef erased mut (tyInt w32)) l₁₆ 0 (vptr (daily .ptr .0) (daily .ptr .1))) ∷ ‵ (fdies (tyRef erased mut (tyInt w32)) l₁₆) ∷ ‵ (fat fullShare (sliceTy (tyRef erased mut (tyInt w16))) l₁₅ 0 v-slots) ∷ ‵ (fdies (sliceTy (tyRef erased mut (tyInt w16))) l₁₅) ∷ ‵ (fat fullShare (tyRef erased mut (tyInt w16)) l₁₄ 0 (vptr (slots .ptr .0) (slots .ptr .1))) ∷ ‵ (fdies (tyRef erased mut (tyInt w16)) l₁₄) ∷ ‵ (fat fullShare (sliceTy (tyRef erased mut (tyInt w32))) l₁₃ 0 v-far) ∷ ‵ (fdies (sliceTy (tyRef erased mut (tyInt w32))) l₁₃) ∷ ‵ (fat fullShare (tyRef erased mut (tyInt w32)) l₁₂ 0 (vptr (far .ptr .0) (far .ptr .1))) ∷ ‵ (fdies (tyRef erased mut (tyInt w32)) l₁₂) ∷ ‵ (fat fullShare (sliceTy (tyRef erased mut (tyInt w32))) l₁₁ 0 v-near) ∷ ‵ (fdies (sliceTy (tyRef erased mut (tyInt w32))) l₁₁) ∷ ‵ (fat fullShare (tyRef erased mut (tyInt w32)) l₁₀ 0 (vptr (near .ptr .0) (near .ptr .1))) ∷ ‵ (fdies (tyRef erased mut (tyInt w32)) l₁₀) ∷ ‵ (fat fullShare tyO l₉ 0 w) ∷ ‵ (fdies tyO l₉) ∷ ‵ (fdies (tyArray tyR 600) l₈) ∷ ‵ (fat fullShare (sliceTy (tyRef (named 4) mut (tyInt w64))) l₇ 0 v-curve) ∷ ‵ (fdies (sliceTy (tyRef (named 4) mut (tyInt w64))) l₇) ∷ ‵ (fat fullShare (tyArray tyR 600) l₆ 0 (only (array-vals (LL.vals R.the-type R′.the-laws) readings))) ∷ ‵ (fdies (tyArray tyR 600) l₆) ∷ ‵ (fat fullShare (sliceTy (tyRef (named 3) mut (tyInt w32))) l₅ 0 v-daily) ∷ ‵ (fdies (sliceTy (tyRef (named 3) mut (tyInt w32))) l₅) ∷ ‵ (fat fullShare (sliceTy (tyRef (named 2) mut (tyInt w16))) l₄ 0 v-slots) ∷ ‵ (fdies (sliceTy (tyRef (named 2) mut (tyInt w16))) l₄) ∷ ‵ (fat fullShare (sliceTy (tyRef (named 1) mut (tyInt w32))) l₃ 0 v-far) ∷ ‵ (fdies (sliceTy (tyRef (named 1) mut (tyInt w32))) l₃) ∷ ‵ (fat fullShare (sliceTy (tyRef (named 0) mut (tyInt w32))) l₂ 0 v-near) ∷ ‵ (fdies (sliceTy (tyRef (named 0) mut (tyInt w32))) l₂) ∷ ‵ (fat fullShare tyT l₁ 0 (LL.val T.the-type T′.the-laws rec)) ∷ ‵ (fdies tyT l₁) ∷ ‵ (fat fullShare tyK l₀ 0 w₂) ∷ ‵ (fdies tyK l₀) ∷ []) (runs C Λ (En l₀ l₁ l₂ l₃ l₄ l₅ l₆ l₇ l₈ l₉ l₁₀ l₁₁ l₁₂ l₁₃ l₁₄ l₁₅ l₁₆ l₁₇ l₁₈ l₁₉ l₂₀ l₂₁ l₂₂) pieces.t-17 (atRet (En l₀ l₁ l₂ l₃ l₄ l₅ l₆ l₇ l₈ l₉ l₁₀ l₁₁ l₁₂ l₁₃ l₁₄ l₁₅ l₁₆ l₁₇ l₁₈ l₁₉ l₂₀ l₂₁ l₂₂) Post))
       after-with-readings r w near′ far′ slots′ daily′ readings′ curve′ is e is-own l-near l-far l-slots l-daily l-curve r₂ w₂ is₂ e₂ =
           returns ! (look ! 54 refl) $ keep ! (54 ∷ 55 ∷ 52 ∷ 53 ∷ 50 ∷ 51 ∷ 48 ∷ 49 ∷ 46 ∷ 47 ∷ 44 ∷ 45 ∷ 42 ∷ 43 ∷ 40 ∷ 41 ∷ 0 ∷ 39 ∷ 37 ∷ 38 ∷ 35 ∷ 36 ∷ 33 ∷ 34 ∷ 31 ∷ 32 ∷ 29 ∷ 30 ∷ 27 ∷ 28 ∷ 25 ∷ 26 ∷ 23 ∷ 24 ∷ 21 ∷ 22 ∷ 19 ∷ 20 ∷ 17 ∷ 18 ∷ 15 ∷ 16 ∷ 13 ∷ 14 ∷ 11 ∷ 12 ∷ 5 ∷ 4 ∷ 3 ∷ 2 ∷ 1 ∷ 10 ∷ 9 ∷ 8 ∷ 7 ∷ 6 ∷ []) $ left l₀ l₁ l₂ l₃ l₄ l₅ l₆ l₇ l₈ l₉ l₁₀ l₁₁ l₁₂ l₁₃ l₁₄ l₁₅ l₁₆ l₁₇ l₁₈ l₁₉ l₂₀ l₂₁ l₂₂ w r readings′ r₂ w₂ near′ far′ slots′ daily′ curve′ is₂ e e₂ l-near l-far l-slots l-daily l-curve
 
-      after-opening : (r : Opened) (w : Val) (near′ : List ℕ) (far′ : List ℕ) (slots′ : List ℕ) (daily′ : List ℕ) (readings′ : List Reading) (curve′ : List ℕ) (is : Is O.the-row r (w ∷ [])) (e : handsBack r (world near′ far′ slots′ daily′ (seen readings′) curve′) ≡ openingOf (view rec) (world (near .now) (far .now) (slots .now) (daily .now) (seen readings) (curve .now))) (is-own : Is (Array R.the-row 600) readings′ (array-vals (LL.vals R.the-type R′.the-laws) readings′)) (l-near : length near′ ≡ length (near .now)) (l-far : length far′ ≡ length (far .now)) (l-slots : length slots′ ≡ length (slots .now)) (l-daily : length daily′ ≡ length (daily .now)) (l-curve : length curve′ ≡ length (curve .now)) → Sq W (‵ (fat fullShare (tyArray tyR 600) l₈ 0 (only (array-vals (LL.vals R.the-type R′.the-laws) readings′))) ∷ ‵ (flft κ₄ q₄) ∷ ‵ (flft κ₃ q₃) ∷ ‵ (flft κ₂ q₂) ∷ ‵ (flft κ₁ q₁) ∷ ‵ (flft κ₀ q₀) ∷ ‵ (finally u64 (curve .name) curve′) ∷ ‵ (finally u32 (daily .name) daily′) ∷ ‵ (finally u16 (slots .name) slots′) ∷ ‵ (finally u32 (far .name) far′) ∷ ‵ (finally u32 (near .name) near′) ∷ ‵ (froom (tyArray tyR 600) l₂₂ 0) ∷ ‵ (fdies (tyArray tyR 600) l₂₂) ∷ ‵ (fat fullShare (sliceTy (tyRef erased mut (tyInt w64))) l₂₁ 0 v-curve) ∷ ‵ (fdies (sliceTy (tyRef erased mut (tyInt w64))) l₂₁) ∷ ‵ (fat fullShare (tyRef erased mut (tyInt w64)) l₂₀ 0 (vptr (curve .ptr .0) (curve .ptr .1))) ∷ ‵ (fdies (tyRef erased mut (tyInt w64)) l₂₀) ∷ ‵ (fat fullShare (sliceTy (tyRef erased mut (pointee (R.the-row .written)))) l₁₉ 0 (sliceVal (l₈, 0) 600)) ∷ ‵ (fdies (sliceTy (tyRef erased mut (pointee (R.the-row .written)))) l₁₉) ∷ ‵ (fat fullShare (tyRef erased mut (tyArray (pointee (R.the-row .written)) 600)) l₁₈ 0 (vptr l₈ 0)) ∷ ‵ (fdies (tyRef erased mut (tyArray (pointee (R.the-row .written)) 600)) l₁₈) ∷ ‵ (fat fullShare (sliceTy (tyRef erased mut (tyInt w32))) l₁₇ 0 v-daily) ∷ ‵ (fdies (sliceTy (tyRef erased mut (tyInt w32))) l₁₇) ∷ ‵ (fat fullShare (tyRef erased mut (tyInt w32)) l₁₆ 0 (vptr (daily .ptr .0) (daily .ptr .1))) ∷ ‵ (fdies (tyRef erased mut (tyInt w32)) l₁₆) ∷ ‵ (fat fullShare (sliceTy (tyRef erased mut (tyInt w16))) l₁₅ 0 v-slots) ∷ ‵ (fdies (sliceTy (tyRef erased mut (tyInt w16))) l₁₅) ∷ ‵ (fat fullShare (tyRef erased mut (tyInt w16)) l₁₄ 0 (vptr (slots .ptr .0) (slots .ptr .1))) ∷ ‵ (fdies (tyRef erased mut (tyInt w16)) l₁₄) ∷ ‵ (fat fullShare (sliceTy (tyRef erased mut (tyInt w32))) l₁₃ 0 v-far) ∷ ‵ (fdies (sliceTy (tyRef erased mut (tyInt w32))) l₁₃) ∷ ‵ (fat fullShare (tyRef erased mut (tyInt w32)) l₁₂ 0 (vptr (far .ptr .0) (far .ptr .1))) ∷ ‵ (fdies (tyRef erased mut (tyInt w32)) l₁₂) ∷ ‵ (fat fullShare (sliceTy (tyRef erased mut (tyInt w32))) l₁₁ 0 v-near) ∷ ‵ (fdies (sliceTy (tyRef erased mut (tyInt w32))) l₁₁) ∷ ‵ (fat fullShare (tyRef erased mut (tyInt w32)) l₁₀ 0 (vptr (near .ptr .0) (near .ptr .1))) ∷ ‵ (fdies (tyRef erased mut (tyInt w32)) l₁₀) ∷ ‵ (fat fullShare tyO l₉ 0 w) ∷ ‵ (fdies tyO l₉) ∷ ‵ (fdies (tyArray tyR 600) l₈) ∷ ‵ (fat fullShare (sliceTy (tyRef (named 4) mut (tyInt w64))) l₇ 0 v-curve) ∷ ‵ (fdies (sliceTy (tyRef (named 4) mut (tyInt w64))) l₇) ∷ ‵ (fat fullShare (tyArray tyR 600) l₆ 0 (only (array-vals (LL.vals R.the-type R′.the-laws) readings))) ∷ ‵ (fdies (tyArray tyR 600) l₆) ∷ ‵ (fat fullShare (sliceTy (tyRef (named 3) mut (tyInt w32))) l₅ 0 v-daily) ∷ ‵ (fdies (sliceTy (tyRef (named 3) mut (tyInt w32))) l₅) ∷ ‵ (fat fullShare (sliceTy (tyRef (named 2) mut (tyInt w16))) l₄ 0 v-slots) ∷ ‵ (fdies (sliceTy (tyRef (named 2) mut (tyInt w16))) l₄) ∷ ‵ (fat fullShare (sliceTy (tyRef (named 1) mut (tyInt w32))) l₃ 0 v-far) ∷ ‵ (fdies (sliceTy (tyRef (named 1) mut (tyInt w32))) l₃) ∷ ‵ (fat fullShare (sliceTy (tyRef (named 0) mut (tyInt w32))) l₂ 0 v-near) ∷ ‵ (fdies (sliceTy (tyRef (named 0) mut (tyInt w32))) l₂) ∷ ‵ (fat fullShare tyT l₁ 0 (LL.val T.the-type T′.the-laws rec)) ∷ ‵ (fdies tyT l₁) ∷ ‵ (froom tyK l₀ 0) ∷ ‵ (fdies tyK l₀) ∷ []) (runs C Λ (En l₀ l₁ l₂ l₃ l₄ l₅ l₆ l₇ l₈ l₉ l₁₀ l₁₁ l₁₂ l₁₃ l₁₄ l₁₅ l₁₆ l₁₇ l₁₈ l₁₉ l₂₀ l₂₁ l₂₂) pieces.t-15 (atRet (En l₀ l₁ l₂ l₃ l₄ l₅ l₆ l₇ l₈ l₉ l₁₀ l₁₁ l₁₂ l₁₃ l₁₄ l₁₅ l₁₆ l₁₇ l₁₈ l₁₉ l₂₀ l₂₁ l₂₂) Post))
+      after-opening : (r : CallResult) (w : Val) (near′ : List ℕ) (far′ : List ℕ) (slots′ : List ℕ) (daily′ : List ℕ) (readings′ : List Reading) (curve′ : List ℕ) (is : Is O.the-row r (w ∷ [])) (e : callView r (lentBlocks near′ far′ slots′ daily′ (readingsView readings′) curve′) ≡ openingOf (view rec) (lentBlocks (near .now) (far .now) (slots .now) (daily .now) (readingsView readings) (curve .now))) (is-own : Is (Array R.the-row 600) readings′ (array-vals (LL.vals R.the-type R′.the-laws) readings′)) (l-near : length near′ ≡ length (near .now)) (l-far : length far′ ≡ length (far .now)) (l-slots : length slots′ ≡ length (slots .now)) (l-daily : length daily′ ≡ length (daily .now)) (l-curve : length curve′ ≡ length (curve .now)) → Sq W (‵ (fat fullShare (tyArray tyR 600) l₈ 0 (only (array-vals (LL.vals R.the-type R′.the-laws) readings′))) ∷ ‵ (flft κ₄ q₄) ∷ ‵ (flft κ₃ q₃) ∷ ‵ (flft κ₂ q₂) ∷ ‵ (flft κ₁ q₁) ∷ ‵ (flft κ₀ q₀) ∷ ‵ (finally u64 (curve .name) curve′) ∷ ‵ (finally u32 (daily .name) daily′) ∷ ‵ (finally u16 (slots .name) slots′) ∷ ‵ (finally u32 (far .name) far′) ∷ ‵ (finally u32 (near .name) near′) ∷ ‵ (froom (tyArray tyR 600) l₂₂ 0) ∷ ‵ (fdies (tyArray tyR 600) l₂₂) ∷ ‵ (fat fullShare (sliceTy (tyRef erased mut (tyInt w64))) l₂₁ 0 v-curve) ∷ ‵ (fdies (sliceTy (tyRef erased mut (tyInt w64))) l₂₁) ∷ ‵ (fat fullShare (tyRef erased mut (tyInt w64)) l₂₀ 0 (vptr (curve .ptr .0) (curve .ptr .1))) ∷ ‵ (fdies (tyRef erased mut (tyInt w64)) l₂₀) ∷ ‵ (fat fullShare (sliceTy (tyRef erased mut (pointee (R.the-row .written)))) l₁₉ 0 (sliceVal (l₈, 0) 600)) ∷ ‵ (fdies (sliceTy (tyRef erased mut (pointee (R.the-row .written)))) l₁₉) ∷ ‵ (fat fullShare (tyRef erased mut (tyArray (pointee (R.the-row .written)) 600)) l₁₈ 0 (vptr l₈ 0)) ∷ ‵ (fdies (tyRef erased mut (tyArray (pointee (R.the-row .written)) 600)) l₁₈) ∷ ‵ (fat fullShare (sliceTy (tyRef erased mut (tyInt w32))) l₁₇ 0 v-daily) ∷ ‵ (fdies (sliceTy (tyRef erased mut (tyInt w32))) l₁₇) ∷ ‵ (fat fullShare (tyRef erased mut (tyInt w32)) l₁₆ 0 (vptr (daily .ptr .0) (daily .ptr .1))) ∷ ‵ (fdies (tyRef erased mut (tyInt w32)) l₁₆) ∷ ‵ (fat fullShare (sliceTy (tyRef erased mut (tyInt w16))) l₁₅ 0 v-slots) ∷ ‵ (fdies (sliceTy (tyRef erased mut (tyInt w16))) l₁₅) ∷ ‵ (fat fullShare (tyRef erased mut (tyInt w16)) l₁₄ 0 (vptr (slots .ptr .0) (slots .ptr .1))) ∷ ‵ (fdies (tyRef erased mut (tyInt w16)) l₁₄) ∷ ‵ (fat fullShare (sliceTy (tyRef erased mut (tyInt w32))) l₁₃ 0 v-far) ∷ ‵ (fdies (sliceTy (tyRef erased mut (tyInt w32))) l₁₃) ∷ ‵ (fat fullShare (tyRef erased mut (tyInt w32)) l₁₂ 0 (vptr (far .ptr .0) (far .ptr .1))) ∷ ‵ (fdies (tyRef erased mut (tyInt w32)) l₁₂) ∷ ‵ (fat fullShare (sliceTy (tyRef erased mut (tyInt w32))) l₁₁ 0 v-near) ∷ ‵ (fdies (sliceTy (tyRef erased mut (tyInt w32))) l₁₁) ∷ ‵ (fat fullShare (tyRef erased mut (tyInt w32)) l₁₀ 0 (vptr (near .ptr .0) (near .ptr .1))) ∷ ‵ (fdies (tyRef erased mut (tyInt w32)) l₁₀) ∷ ‵ (fat fullShare tyO l₉ 0 w) ∷ ‵ (fdies tyO l₉) ∷ ‵ (fdies (tyArray tyR 600) l₈) ∷ ‵ (fat fullShare (sliceTy (tyRef (named 4) mut (tyInt w64))) l₇ 0 v-curve) ∷ ‵ (fdies (sliceTy (tyRef (named 4) mut (tyInt w64))) l₇) ∷ ‵ (fat fullShare (tyArray tyR 600) l₆ 0 (only (array-vals (LL.vals R.the-type R′.the-laws) readings))) ∷ ‵ (fdies (tyArray tyR 600) l₆) ∷ ‵ (fat fullShare (sliceTy (tyRef (named 3) mut (tyInt w32))) l₅ 0 v-daily) ∷ ‵ (fdies (sliceTy (tyRef (named 3) mut (tyInt w32))) l₅) ∷ ‵ (fat fullShare (sliceTy (tyRef (named 2) mut (tyInt w16))) l₄ 0 v-slots) ∷ ‵ (fdies (sliceTy (tyRef (named 2) mut (tyInt w16))) l₄) ∷ ‵ (fat fullShare (sliceTy (tyRef (named 1) mut (tyInt w32))) l₃ 0 v-far) ∷ ‵ (fdies (sliceTy (tyRef (named 1) mut (tyInt w32))) l₃) ∷ ‵ (fat fullShare (sliceTy (tyRef (named 0) mut (tyInt w32))) l₂ 0 v-near) ∷ ‵ (fdies (sliceTy (tyRef (named 0) mut (tyInt w32))) l₂) ∷ ‵ (fat fullShare tyT l₁ 0 (LL.val T.the-type T′.the-laws rec)) ∷ ‵ (fdies tyT l₁) ∷ ‵ (froom tyK l₀ 0) ∷ ‵ (fdies tyK l₀) ∷ []) (runs C Λ (En l₀ l₁ l₂ l₃ l₄ l₅ l₆ l₇ l₈ l₉ l₁₀ l₁₁ l₁₂ l₁₃ l₁₄ l₁₅ l₁₆ l₁₇ l₁₈ l₁₉ l₂₀ l₂₁ l₂₂) pieces.t-15 (atRet (En l₀ l₁ l₂ l₃ l₄ l₅ l₆ l₇ l₈ l₉ l₁₀ l₁₁ l₁₂ l₁₃ l₁₄ l₁₅ l₁₆ l₁₇ l₁₈ l₁₉ l₂₀ l₂₁ l₂₂) Post))
       after-opening r w near′ far′ slots′ daily′ readings′ curve′ is e is-own l-near l-far l-slots l-daily l-curve =
           assigns ! (of-opd ! (load ! (from ! (stop !)) (look ! 0 refl))) (from ! (stop !)) (init ! 11 refl (array-typed R.the-row (LL.lawful R.the-type R′.the-laws 𝓤 H A W .typed) 600 readings′ _ is-own .0)) $
           -- `with_readings`
           nothing ! $ use1 W (raw (Packed 𝓤 H A mem run .pre (to-with-readings r w readings′))) (goes-with-readings r w readings′ is is-own) $
           calls-at ! fm (Packed 𝓤 H A mem run) known-with-readings (to-with-readings r w readings′) (and-then ! (load ! (from ! (stop !)) (look ! 38 refl)) (and-then ! (load ! (from ! (stop !)) (look ! 12 refl)) (no-more !))) (λ w₂.
-          use1 W (later (some (λ (r₂ : Kept). ((‵ ftrue) ⊛ ‵ (K.the-row .own r₂ (w₂ ∷ []))) ⊛ raw (ensured 𝓤 H A with-readings.ended (with-readings.clauses 𝓤 H A mem run) tt (r, (readings′, tt)) tt r₂)))) (id⊢ 𝓤 _) $ await ! tt $ pick ! (λ r₂.
-          split ! $ move ! (1 ∷ []) $ use1 W (some (λ (ms₂ : Unit {0} × (Unit {0} × Unit {0})). ‵ (lasts with-readings.ended tt (r, (readings′, tt)) ms₂) ⊛ raw (fact 𝓤 (r₂ ≡ keptWith r readings′)))) (id⊢ 𝓤 _) $ pick ! (λ ms₂.
-          split ! $ move ! (1 ∷ []) $ heard ! (r₂ ≡ keptWith r readings′) (λ e₂. fsplit ! $ drop ! $ fsplit ! $ drop ! $
+          use1 W (later (some (λ (r₂ : OwnResult). ((‵ ftrue) ⊛ ‵ (K.the-row .own r₂ (w₂ ∷ []))) ⊛ raw (ensured 𝓤 H A with-readings.ended (with-readings.clauses 𝓤 H A mem run) tt (r, (readings′, tt)) tt r₂)))) (id⊢ 𝓤 _) $ await ! tt $ pick ! (λ r₂.
+          split ! $ move ! (1 ∷ []) $ use1 W (some (λ (ms₂ : Unit {0} × (Unit {0} × Unit {0})). ‵ (lasts with-readings.ended tt (r, (readings′, tt)) ms₂) ⊛ raw (fact 𝓤 (r₂ ≡ ownResultOf r readings′)))) (id⊢ 𝓤 _) $ pick ! (λ ms₂.
+          split ! $ move ! (1 ∷ []) $ heard ! (r₂ ≡ ownResultOf r readings′) (λ e₂. fsplit ! $ drop ! $ fsplit ! $ drop ! $
           drop ! $ split ! $ move ! (1 ∷ []) $ peeks ! K.the-row (Is (K.the-row)) (shows 𝓤 H A (K.the-row)) r₂ (w₂ ∷ []) (λ is₂. land ! (from ! (stop !)) (init ! 56 refl (LL.lawful K.the-type K′.the-laws 𝓤 H A W .typed r₂ _ is₂ .0)) $ drop ! $ drop ! $
           after-with-readings r w near′ far′ slots′ daily′ readings′ curve′ is e is-own l-near l-far l-slots l-daily l-curve r₂ w₂ is₂ e₂)))))
 
@@ -211,9 +211,9 @@ module _ {M : Type 1} (𝓤 : URA M) (H : Heap 𝓤) (A : Atoms 𝓤) (W : Given
           -- `Record::open`
           move ! (3 ∷ 4 ∷ 5 ∷ 6 ∷ 2 ∷ 7 ∷ 8 ∷ 9 ∷ 10 ∷ 11 ∷ 0 ∷ 12 ∷ []) $ group ! 12 $ use1 W (raw (Open 𝓤 H A mem run .pre (to-opening l₈ ν γ))) (goes-opening l₈ ν γ) $
           calls-at ! fm (Open 𝓤 H A mem run) known-opening (to-opening l₈ ν γ) (and-then ! (load ! (from ! (stop !)) (look ! 43 refl)) (and-then ! (load ! (from ! (stop !)) (look ! 24 refl)) (and-then ! (load ! (from ! (stop !)) (look ! 20 refl)) (and-then ! (load ! (from ! (stop !)) (look ! 16 refl)) (and-then ! (load ! (from ! (stop !)) (look ! 12 refl)) (and-then ! (load ! (from ! (stop !)) (look ! 8 refl)) (and-then ! (load ! (from ! (stop !)) (look ! 4 refl)) (no-more !)))))))) (λ w.
-          use1 W (later (some (λ (r : Opened). ((‵ (flft κ₀ q₀) ⊛ ‵ (flft κ₁ q₁) ⊛ ‵ (flft κ₂ q₂) ⊛ ‵ (flft κ₃ q₃) ⊛ ‵ (flft (ν ∷ []) fullShare) ⊛ ‵ (flft κ₄ q₄) ⊛ ‵ ftrue) ⊛ ‵ (O.the-row .own r (w ∷ []))) ⊛ raw (ensured 𝓤 H A opening.ended (opening.clauses 𝓤 H A mem run) (κ₀, (κ₁, (κ₂, (κ₃, ((ν ∷ []), (κ₄, tt)))))) (rec, (near, (far, (slots, (daily, ((at-own l₈ γ readings), (curve, tt))))))) tt r)))) (id⊢ 𝓤 _) $ await ! tt $ pick ! (λ r.
-          split ! $ move ! (1 ∷ []) $ use1 W (some (λ (ms : Unit {0} × (List ℕ × (List ℕ × (List ℕ × (List ℕ × (List Reading × (List ℕ × Unit {0}))))))). ‵ (lasts opening.ended (κ₀, (κ₁, (κ₂, (κ₃, ((ν ∷ []), (κ₄, tt)))))) (rec, (near, (far, (slots, (daily, ((at-own l₈ γ readings), (curve, tt))))))) ms) ⊛ raw (fact 𝓤 (handsBack r (world (ms .1 .0) (ms .1 .1 .0) (ms .1 .1 .1 .0) (ms .1 .1 .1 .1 .0) (seen (ms .1 .1 .1 .1 .1 .0)) (ms .1 .1 .1 .1 .1 .1 .0)) ≡ openingOf (view rec) (world (near .now) (far .now) (slots .now) (daily .now) (seen readings) (curve .now)))))) (id⊢ 𝓤 _) $ pick ! (λ ms.
-          split ! $ move ! (1 ∷ []) $ heard ! (handsBack r (world (ms .1 .0) (ms .1 .1 .0) (ms .1 .1 .1 .0) (ms .1 .1 .1 .1 .0) (seen (ms .1 .1 .1 .1 .1 .0)) (ms .1 .1 .1 .1 .1 .1 .0)) ≡ openingOf (view rec) (world (near .now) (far .now) (slots .now) (daily .now) (seen readings) (curve .now))) (λ e. fsplit ! $ drop ! $ fsplit ! $ fsplit ! $ move ! (1 ∷ []) $ feqL ! (λ l-near. move ! (1 ∷ []) $ fsplit ! $ fsplit ! $ move ! (1 ∷ []) $ feqL ! (λ l-far. move ! (1 ∷ []) $ fsplit ! $ fsplit ! $ move ! (1 ∷ []) $ feqL ! (λ l-slots. move ! (1 ∷ []) $ fsplit ! $ fsplit ! $ move ! (1 ∷ []) $ feqL ! (λ l-daily. move ! (1 ∷ []) $ fsplit ! $ fsplit ! $ move ! (1 ∷ []) $ feqL ! (λ l-own. move ! (1 ∷ []) $ fsplit ! $ fsplit ! $ move ! (1 ∷ []) $ feqL ! (λ l-curve.
+          use1 W (later (some (λ (r : CallResult). ((‵ (flft κ₀ q₀) ⊛ ‵ (flft κ₁ q₁) ⊛ ‵ (flft κ₂ q₂) ⊛ ‵ (flft κ₃ q₃) ⊛ ‵ (flft (ν ∷ []) fullShare) ⊛ ‵ (flft κ₄ q₄) ⊛ ‵ ftrue) ⊛ ‵ (O.the-row .own r (w ∷ []))) ⊛ raw (ensured 𝓤 H A opening.ended (opening.clauses 𝓤 H A mem run) (κ₀, (κ₁, (κ₂, (κ₃, ((ν ∷ []), (κ₄, tt)))))) (rec, (near, (far, (slots, (daily, ((at-own l₈ γ readings), (curve, tt))))))) tt r)))) (id⊢ 𝓤 _) $ await ! tt $ pick ! (λ r.
+          split ! $ move ! (1 ∷ []) $ use1 W (some (λ (ms : Unit {0} × (List ℕ × (List ℕ × (List ℕ × (List ℕ × (List Reading × (List ℕ × Unit {0}))))))). ‵ (lasts opening.ended (κ₀, (κ₁, (κ₂, (κ₃, ((ν ∷ []), (κ₄, tt)))))) (rec, (near, (far, (slots, (daily, ((at-own l₈ γ readings), (curve, tt))))))) ms) ⊛ raw (fact 𝓤 (callView r (lentBlocks (ms .1 .0) (ms .1 .1 .0) (ms .1 .1 .1 .0) (ms .1 .1 .1 .1 .0) (readingsView (ms .1 .1 .1 .1 .1 .0)) (ms .1 .1 .1 .1 .1 .1 .0)) ≡ openingOf (view rec) (lentBlocks (near .now) (far .now) (slots .now) (daily .now) (readingsView readings) (curve .now)))))) (id⊢ 𝓤 _) $ pick ! (λ ms.
+          split ! $ move ! (1 ∷ []) $ heard ! (callView r (lentBlocks (ms .1 .0) (ms .1 .1 .0) (ms .1 .1 .1 .0) (ms .1 .1 .1 .1 .0) (readingsView (ms .1 .1 .1 .1 .1 .0)) (ms .1 .1 .1 .1 .1 .1 .0)) ≡ openingOf (view rec) (lentBlocks (near .now) (far .now) (slots .now) (daily .now) (readingsView readings) (curve .now))) (λ e. fsplit ! $ drop ! $ fsplit ! $ fsplit ! $ move ! (1 ∷ []) $ feqL ! (λ l-near. move ! (1 ∷ []) $ fsplit ! $ fsplit ! $ move ! (1 ∷ []) $ feqL ! (λ l-far. move ! (1 ∷ []) $ fsplit ! $ fsplit ! $ move ! (1 ∷ []) $ feqL ! (λ l-slots. move ! (1 ∷ []) $ fsplit ! $ fsplit ! $ move ! (1 ∷ []) $ feqL ! (λ l-daily. move ! (1 ∷ []) $ fsplit ! $ fsplit ! $ move ! (1 ∷ []) $ feqL ! (λ l-own. move ! (1 ∷ []) $ fsplit ! $ fsplit ! $ move ! (1 ∷ []) $ feqL ! (λ l-curve.
           move ! (1 ∷ []) $ drop ! $ move ! (6 ∷ []) $ split ! $ move ! (1 ∷ []) $ peeks ! O.the-row (Is (O.the-row)) (shows 𝓤 H A (O.the-row)) r (w ∷ []) (λ is. land ! (from ! (stop !)) (init ! 35 refl (LL.lawful O.the-type O′.the-laws 𝓤 H A W .typed r _ is .0)) $ drop ! $ split ! $ move ! (1 ∷ []) $ split ! $ move ! (1 ∷ []) $ split ! $ move ! (1 ∷ []) $ split ! $ move ! (1 ∷ []) $ split ! $ move ! (1 ∷ []) $ split ! $ move ! (1 ∷ []) $ drop ! $
           -- and taken back
           move ! (1 ∷ []) $ lft-end ! tt $ move ! (0 ∷ 12 ∷ 7 ∷ []) $ use3 W (later (‵ (fat fullShare (tyArray tyR 600) l₈ 0 (only (array-vals (LL.vals R.the-type R′.the-laws) (ms .1 .1 .1 .1 .1 .0)))) ⊛ ‵ ((Array R.the-row 600) .own (ms .1 .1 .1 .1 .1 .0) (array-vals (LL.vals R.the-type R′.the-laws) (ms .1 .1 .1 .1 .1 .0))))) (gives-back 𝓤 H A W R.the-row 600 (LL.vals R.the-type R′.the-laws) (LL.tells R.the-type R′.the-laws) (ν ∷ []) γ (ms .1 .1 .1 .1 .1 .0) l₈) $ await ! tt $ split ! $ move ! (1 ∷ []) $ peeks ! (Array R.the-row 600) (Is (Array R.the-row 600)) (shows 𝓤 H A (Array R.the-row 600)) (ms .1 .1 .1 .1 .1 .0) (array-vals (LL.vals R.the-type R′.the-laws) (ms .1 .1 .1 .1 .1 .0)) (λ is-own. drop ! $
@@ -228,7 +228,7 @@ module _ {M : Type 1} (𝓤 : URA M) (H : Heap 𝓤) (A : Atoms 𝓤) (W : Given
         begun l₀ l₁ l₂ l₃ l₄ l₅ l₆ l₇ l₈ l₉ l₁₀ l₁₁ l₁₂ l₁₃ l₁₄ l₁₅ l₁₆ l₁₇ l₁₈ l₁₉ l₂₀ l₂₁ l₂₂)))))))))))))))))))))))
 
 module _ {M : Type 1} (𝓤 : URA M) (H : Heap 𝓤) (A : Atoms 𝓤) (W : Given 𝓤 H A) (mem : Memory → SProp 𝓤) (run : Routine → Fun 𝓤) where
-  walks : (C : Calls 𝓤 H) (Λ : Loops 𝓤 H) → FmC 𝓤 H (W .laws) C → Triple 𝓤 (C #site·Record·open) (Open 𝓤 H A mem run) → Triple 𝓤 (C #own-calls·packing·with-readings) (Packed 𝓤 H A mem run) → Walks 𝓤 H A f.ended stayed (WpFn 𝓤 H C Λ code.function) (f.clauses 𝓤 H A mem run)
+  walks : (C : Calls 𝓤 H) (Λ : Loops 𝓤 H) → FmC 𝓤 H (W .laws) C → Triple 𝓤 (C #record-calls·Record·open) (Open 𝓤 H A mem run) → Triple 𝓤 (C #own-calls·packing·with-readings) (Packed 𝓤 H A mem run) → Walks 𝓤 H A f.ended stayed (WpFn 𝓤 H C Λ code.function) (f.clauses 𝓤 H A mem run)
   walks C Λ fm known-opening known-with-readings = walked 𝓤 H A f.ended stayed (f.clauses 𝓤 H A mem run) (WpFn 𝓤 H C Λ code.function)
       (λ κs. (LL.vals T.the-type T′.the-laws, (slice-vals, (slice-vals, (slice-vals, (slice-vals, (array-vals (LL.vals R.the-type R′.the-laws), (slice-vals, tt))))))))
       (λ κs. (LL.tells T.the-type T′.the-laws, (mut-slice-tells (named 0) (κs .0) u32, (mut-slice-tells (named 1) (κs .1 .0) u32, (mut-slice-tells (named 2) (κs .1 .1 .0) u16, (mut-slice-tells (named 3) (κs .1 .1 .1 .0) u32, (array-tells R.the-row (LL.vals R.the-type R′.the-laws) (LL.tells R.the-type R′.the-laws) 600, (mut-slice-tells (named 4) (κs .1 .1 .1 .1 .0) u64, tt))))))))
@@ -236,7 +236,7 @@ module _ {M : Type 1} (𝓤 : URA M) (H : Heap 𝓤) (A : Atoms 𝓤) (W : Given
       (a .0) (a .1 .0) (a .1 .1 .0) (a .1 .1 .1 .0) (a .1 .1 .1 .1 .0) (a .1 .1 .1 .1 .1 .0) (a .1 .1 .1 .1 .1 .1 .0)
       (are .0) (are .1 .0 .0 .1) (are .1 .1 .0 .0 .1) (are .1 .1 .1 .0 .0 .1) (are .1 .1 .1 .1 .0 .0 .1) (are .1 .1 .1 .1 .1 .0) (are .1 .1 .1 .1 .1 .1 .0 .0 .1) C Λ fm known-opening known-with-readings))
 
-meets : {M : Type 1} (𝓤 : URA M) (H : Heap 𝓤) (A : Atoms 𝓤) → Given 𝓤 H A → (mem : Memory → SProp 𝓤) (run : Routine → Fun 𝓤) (𝓣 : Tables 𝓤 H) → Triple 𝓤 (𝓣 .C #site·Record·open) (Open 𝓤 H A mem run) → Triple 𝓤 (𝓣 .C #own-calls·packing·with-readings) (Packed 𝓤 H A mem run)
+meets : {M : Type 1} (𝓤 : URA M) (H : Heap 𝓤) (A : Atoms 𝓤) → Given 𝓤 H A → (mem : Memory → SProp 𝓤) (run : Routine → Fun 𝓤) (𝓣 : Tables 𝓤 H) → Triple 𝓤 (𝓣 .C #record-calls·Record·open) (Open 𝓤 H A mem run) → Triple 𝓤 (𝓣 .C #own-calls·packing·with-readings) (Packed 𝓤 H A mem run)
     → Meets 𝓤 H A f.signature (WpFn 𝓤 H (𝓣 .C) (𝓣 .Λ) code.function) (f.spec 𝓤 H A mem run)
 meets 𝓤 H A W mem run 𝓣 known-opening known-with-readings =
     walk-meets 𝓤 H A f.ended stayed W
@@ -249,5 +249,5 @@ open-own-spec 𝓤 H 𝓜 𝓖 𝓡 =
     entered 𝓤 H (tripleOf 𝓤 H (𝓖 .A) f.signature (f.spec 𝓤 H (𝓖 .A) (𝓜 .mem) (𝓡 .run)))
     (tables 𝓤 H 𝓜 𝓡 code.env .C) (tables 𝓤 H 𝓜 𝓡 code.env .Λ) #own-calls·opens·open-own code.function (code.unfolded 𝓤 H 𝓜 𝓡)
     (meets 𝓤 H (𝓖 .A) (givenOf 𝓤 H 𝓜 𝓖) (𝓜 .mem) (𝓡 .run) (tablesOf 𝓤 H 𝓜 (tables 𝓤 H 𝓜 𝓡 code.env))
-    (cited 𝓤 H (Open 𝓤 H (𝓖 .A) (𝓜 .mem) (𝓡 .run)) 𝓜 𝓡 code.env #site·Record·open opening-def.routine code.calls-site·Record·open (opening-thm.met 𝓤 H 𝓜 𝓖 𝓡))
+    (cited 𝓤 H (Open 𝓤 H (𝓖 .A) (𝓜 .mem) (𝓡 .run)) 𝓜 𝓡 code.env #record-calls·Record·open opening-def.routine code.calls-record-calls·Record·open (opening-thm.met 𝓤 H 𝓜 𝓖 𝓡))
     (cited 𝓤 H (Packed 𝓤 H (𝓖 .A) (𝓜 .mem) (𝓡 .run)) 𝓜 𝓡 code.env #own-calls·packing·with-readings with-readings-def.routine code.calls-own-calls·packing·with-readings (with-readings-thm.met 𝓤 H 𝓜 𝓖 𝓡)))

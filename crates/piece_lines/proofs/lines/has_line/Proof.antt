@@ -3,14 +3,14 @@ use borrow.Author.Needs.{needs}
 use Rattle.piece_lines.proofs.lines.has_line.Statement.{statement}
 use Rattle.piece_lines.proofs.lines.has_line.Tie as tie
 
-is-answered-requires : tie.Need-is-answered-requires
-is-answered-requires c κs = search needs
+is-final-requires : tie.Need-is-final-requires
+is-final-requires c κs = search needs
 
 returns : tie.Need-returns
-returns c = rw (sym (c .before .is-answered .ensures) ∙ c .if1 .taken)
+returns c = rw (sym (c .before .is-final .ensures) ∙ c .if1 .taken)
 
 returns-2 : tie.Need-returns-2
-returns-2 c = rw (sym (c .before .before .is-answered .ensures) ∙ c .before .if1 .left)
+returns-2 c = rw (sym (c .before .before .is-final .ensures) ∙ c .before .if1 .left)
 
 pub has-line-spec : {M : Type 1} → statement M
-has-line-spec = tie.close (tie.spec is-answered-requires returns returns-2)
+has-line-spec = tie.close (tie.spec is-final-requires returns returns-2)

@@ -1,6 +1,7 @@
 use Rattle.meaning.specs.Blocks.{slotAt}
-use Rattle.points.specs.OwnGiven.{codeIn, readIn}
-use Rattle.points.proofs.DonorsGiven.{not-given, is-given}
+use Rattle.points.specs.OwnPoints.{codeIn, readIn}
+use Rattle.points.proofs.DonorOrigins.{not-given, is-given}
+use borrow.Author.Tests.{not-true, not-false}
 use borrow.Author.Needs.{needs}
 use Rattle.points.proofs.curve_donors.curve_donor.Statement.{statement}
 use Rattle.points.proofs.curve_donors.curve_donor.Tie as tie
@@ -10,7 +11,7 @@ use Rattle.points.proofs.own.code.Reads as code-reads
 use Rattle.points.proofs.own.measured.Reads as measured-reads
 
 returns : tie.Need-returns
-returns c = let a = c .before .before .before .args in not-given (a .valid) (readIn (a .al) (a .near .now) (a .far .now) (a .year) (a .w) (a .h)) (c .if1 .taken)
+returns c = let a = c .before .before .before .args in not-given (a .valid) (readIn (a .al) (a .near .now) (a .far .now) (a .year) (a .w) (a .h)) (not-true (a .valid) (c .if1 .taken))
 
 code-requires : tie.Need-code-requires
 code-requires c κs = search needs
@@ -26,7 +27,7 @@ unfolding readIn
 returns-2 c =
     let s = c .before .before .before .before .before in
     let a = s .args in
-    is-given (a .valid) (readIn (a .al) (a .near .now) (a .far .now) (a .year) (a .w) (a .h)) (c .measured .result) (c .before .before .if1 .left)
+    is-given (a .valid) (readIn (a .al) (a .near .now) (a .far .now) (a .year) (a .w) (a .h)) (c .measured .result) (not-false (a .valid) (c .before .before .if1 .left))
     (rw (c .before .code .ensures) at (c .measured .ensures))
 
 pub curve-donor-spec : {M : Type 1} → statement M

@@ -4,7 +4,7 @@ use borrow.Author.Needs.{needs}
 use native.Mathlib.Omega.{arith}
 use lib.ListN.{getD}
 use Rattle.points.specs.Sums.{donorsOf}
-use Rattle.points.specs.DonorsGiven.{curveGiven, donorsAmong}
+use Rattle.points.specs.DonorOrigins.{curveOrigin, donorsAmong}
 use Rattle.points.specs.DonorFits.{DonorsFit}
 use Rattle.points.proofs.Gathered.{joined, left, none-yet, gather-on, gathered, fit-on, fit-more}
 use Rattle.points.proofs.curve_donors.from_curves.Statement.{statement}
@@ -16,7 +16,7 @@ use Rattle.points.proofs.donors.with_donor.Reads as with-donor-reads
 
 abbrev Inv-loop : tie.InvT-loop
 Inv-loop b near far curves cas w h n d₀ k₀ d k =
-    (k ≤ n) × DonorsFit k d × (joined d (left n cas (curveGiven (b .al) (b .first) near far curves w h) k) ≡ donorsOf (donorsAmong n cas (curveGiven (b .al) (b .first) near far curves w h)))
+    (k ≤ n) × DonorsFit k d × (joined d (left n cas (curveOrigin (b .al) (b .first) near far curves w h) k) ≡ donorsOf (donorsAmong n cas (curveOrigin (b .al) (b .first) near far curves w h)))
 
 abbrev μ-loop : tie.MeasureT-loop
 μ-loop b near far curves cas w h n d₀ k₀ d k = n - k
@@ -24,13 +24,10 @@ abbrev μ-loop : tie.MeasureT-loop
 loop-holds : tie.Need-loop-holds Inv-loop μ-loop
 loop-holds c =
     let a = c .before .before .args in
-    (omega arith, (omega arith, omega arith), none-yet (a .b .count) (a .cas .now) (curveGiven (a .b .al) (a .b .first) (a .near .now) (a .far .now) (a .curves .now) (a .w) (a .h)))
+    (omega arith, (omega arith, omega arith), none-yet (a .site .count) (a .cas .now) (curveOrigin (a .site .al) (a .site .first) (a .near .now) (a .far .now) (a .curves .now) (a .w) (a .h)))
 
 add-curve-donor : tie.Need-add-curve-donor Inv-loop μ-loop
 add-curve-donor c = search needs
-
-mul-curve-donor : tie.Need-mul-curve-donor Inv-loop μ-loop
-mul-curve-donor c = search needs
 
 element-copy-out-curve-donor : tie.Need-element-copy-out-curve-donor Inv-loop μ-loop
 element-copy-out-curve-donor c = search needs
@@ -57,17 +54,17 @@ loop-less : tie.Need-loop-less Inv-loop μ-loop
 loop-less c = search needs
 
 loop-again : tie.Need-loop-again Inv-loop μ-loop
-unfolding curveGiven
+unfolding curveOrigin
 loop-again c =
     let b = c .before .before .before .before .before .before in
     let s = b .before .before .before in
     let a = s .args in
     let f = c .before .before .curve-donor in
     let t = c .before .before .before .before .before .loop-test .taken in
-    let n = a .b .count in (
+    let n = a .site .count in (
       omega arith,
       rw (c .with-donor .ensures) (fit-on (b .loop .k) (b .loop .d) (getD (a .cas .now) (b .loop .k) 0) (f .result) (b .loop .inv .1) (s .pre .2 (b .loop .k)) (f .ensures .fits)),
-      rw (c .with-donor .ensures) (gather-on n (a .cas .now) (curveGiven (a .b .al) (a .b .first) (a .near .now) (a .far .now) (a .curves .now) (a .w) (a .h)) (b .loop .k) (b .loop .d) (f .result) t (f .ensures) (b .loop .inv .2)),
+      rw (c .with-donor .ensures) (gather-on n (a .cas .now) (curveOrigin (a .site .al) (a .site .first) (a .near .now) (a .far .now) (a .curves .now) (a .w) (a .h)) (b .loop .k) (b .loop .d) (f .result) t (f .ensures) (b .loop .inv .2)),
     )
 
 returns : tie.Need-returns Inv-loop μ-loop
@@ -76,8 +73,8 @@ returns c =
     let s = b .before .before .before in
     let a = s .args in
     record {
-      are = gathered (a .b .count) (a .cas .now) (curveGiven (a .b .al) (a .b .first) (a .near .now) (a .far .now) (a .curves .now) (a .w) (a .h)) (b .loop .k) (b .loop .d) (c .loop-test .left) (b .loop .inv .2);
-      fit = fit-more (b .loop .k) (a .b .count) (b .loop .d) (b .loop .inv .0) (b .loop .inv .1);
+      are = gathered (a .site .count) (a .cas .now) (curveOrigin (a .site .al) (a .site .first) (a .near .now) (a .far .now) (a .curves .now) (a .w) (a .h)) (b .loop .k) (b .loop .d) (c .loop-test .left) (b .loop .inv .2);
+      fit = fit-more (b .loop .k) (a .site .count) (b .loop .d) (b .loop .inv .0) (b .loop .inv .1);
     }
 
 pub from-curves-spec : {M : Type 1} → statement M
@@ -88,7 +85,6 @@ from-curves-spec =
     μ-loop
     loop-holds
     add-curve-donor
-    mul-curve-donor
     element-copy-out-curve-donor
     curve-donor-requires
     mul-with-donor

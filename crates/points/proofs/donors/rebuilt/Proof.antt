@@ -1,14 +1,14 @@
 use mathlib.Core.Path.{ap, _∙_}
 use native.Mathlib.Omega.{arith}
 use borrow.Author.Tests.{eq-eqb, ne-eqb}
-use Rattle.points.specs.Filled.{filledBy}
+use Rattle.points.specs.PlacePoints.{placePointBy}
 use Rattle.points.specs.Sums.{rebuiltFrom}
 use borrow.Author.Needs.{needs}
 use Rattle.points.proofs.donors.rebuilt.Statement.{statement}
 use Rattle.points.proofs.donors.rebuilt.Tie as tie
 use Rattle.points.proofs.donors.rebuilt.Reads as reads
 use Rattle.points.proofs.donors.rebuilt.Lts as lts
-use Rattle.points.proofs.own.filled_by.Reads as filled-by-reads
+use Rattle.points.proofs.own.place_point.Reads as place-point-reads
 use Rattle.rounding.proofs.rebuilt.Reads as rebuilt-reads
 
 enum-told : tie.Need-enum-told
@@ -27,8 +27,8 @@ rebuilt-requires c κs =
     let a = rw (c .before .before .d .given .1) at (s .pre .1) in
     (s .pre .0, omega (arith, a), omega (arith, c .if1 .left), omega (arith, a))
 
-filled-by-requires : tie.Need-filled-by-requires
-filled-by-requires c κs = search needs
+place-point-requires : tie.Need-place-point-requires
+place-point-requires c κs = search needs
 
 returns-2 : tie.Need-returns-2
 unfolding rebuiltFrom
@@ -38,7 +38,7 @@ returns-3 : tie.Need-returns-3
 unfolding rebuiltFrom
 returns-3 c =
     rw (c .before .before .before .before .d .given .1, ne-eqb _ _ (c .before .before .if1 .left))
-    (c .filled-by .ensures ∙ ap filledBy (c .before .rebuilt .ensures))
+    (c .place-point .ensures ∙ ap placePointBy (c .before .rebuilt .ensures))
 
 pub rebuilt-spec : {M : Type 1} → statement M
 rebuilt-spec =
@@ -48,6 +48,6 @@ rebuilt-spec =
     enum-known-d
     returns
     rebuilt-requires
-    filled-by-requires
+    place-point-requires
     returns-2
     returns-3)

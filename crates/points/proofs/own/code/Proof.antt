@@ -3,7 +3,7 @@ use Prim.Native.Nat.{ℕ, _+_, _*_}
 use lib.ListN.{getD, List·getD-eq-default}
 use Rattle.lists.proofs.Ranges.{getD-any}
 use Rattle.meaning.specs.Blocks.{missingPoint, slotAt}
-use Rattle.points.specs.OwnGiven.{codeIn}
+use Rattle.points.specs.OwnPoints.{codeIn}
 use borrow.Author.Needs.{needs}
 use Rattle.points.proofs.own.code.Statement.{statement}
 use Rattle.points.proofs.own.code.Tie as tie

@@ -1,4 +1,4 @@
-use Rattle.points.proofs.Fillings.{missing-filled, read-filled}
+use Rattle.points.proofs.PlacePoints.{missing-filled, read-filled}
 use borrow.Author.Needs.{needs}
 use Rattle.points.proofs.own.measured.Statement.{statement}
 use Rattle.points.proofs.own.measured.Tie as tie

@@ -2,7 +2,7 @@ use mathlib.Core.Path.{refl}
 use Prim.Native.Nat.{_+_, _*_}
 use native.Mathlib.Omega.{arith}
 use Rattle.meaning.specs.Blocks.{slotAt}
-use Rattle.points.specs.OwnGiven.{profileIn}
+use Rattle.points.specs.OwnPoints.{profileIn}
 use borrow.Author.Needs.{needs}
 use Rattle.points.proofs.own.profile.Statement.{statement}
 use Rattle.points.proofs.own.profile.Tie as tie

@@ -23,8 +23,8 @@ slice-aggregate-each-year-2 c = search needs
 each-year-requires-2 : tie.Need-each-year-requires-2
 each-year-requires-2 c κs = let h = c .before .before .before .before .before .before .before .before in history-ends (h .history .result) _ _ (h .history .ensures)
 
-both-requires : tie.Need-both-requires
-both-requires c κs = search needs
+and-requires : tie.Need-and-requires
+and-requires c κs = search needs
 
 slice-aggregate-each-year-3 : tie.Need-slice-aggregate-each-year-3
 slice-aggregate-each-year-3 c = search needs
@@ -32,8 +32,8 @@ slice-aggregate-each-year-3 c = search needs
 each-year-requires-3 : tie.Need-each-year-requires-3
 each-year-requires-3 c κs = let h = c .before .before .before .before .before .before .before .before .before .before in axis-ends (h .axis .result) _ _ (h .axis .ensures)
 
-both-requires-2 : tie.Need-both-requires-2
-both-requires-2 c κs = search needs
+and-requires-2 : tie.Need-and-requires-2
+and-requires-2 c κs = search needs
 
 slice-aggregate-each-year-4 : tie.Need-slice-aggregate-each-year-4
 slice-aggregate-each-year-4 c = search needs
@@ -41,8 +41,8 @@ slice-aggregate-each-year-4 c = search needs
 each-year-requires-4 : tie.Need-each-year-requires-4
 each-year-requires-4 c κs = let h = c .before .before .before .before .before .before .before .before .before .before .before .before .before .before in history-ends (h .history .result) _ _ (h .history .ensures)
 
-both-requires-3 : tie.Need-both-requires-3
-both-requires-3 c κs = search needs
+and-requires-3 : tie.Need-and-requires-3
+and-requires-3 c κs = search needs
 
 returns : tie.Need-returns
 unfolding talliesFit yearNumberFits rateFits
@@ -52,7 +52,7 @@ returns c =
     let b7 = b4 .before .before .before in
     let b9 = b7 .before .before in
     let b15 = b9 .before .before .before .before .before .before in
-    rw (c .both3 .ensures, b1 .each-year4 .ensures, b1 .before .before .both2 .ensures, b4 .each-year3 .ensures, b4 .before .before .both .ensures, b7 .each-year2 .ensures, b9 .each-year .ensures, b15 .axis .ensures, b15 .before .history .ensures)
+    rw (c .and3 .ensures, b1 .each-year4 .ensures, b1 .before .before .and2 .ensures, b4 .each-year3 .ensures, b4 .before .before .and .ensures, b7 .each-year2 .ensures, b9 .each-year .ensures, b15 .axis .ensures, b15 .before .history .ensures)
 
 pub tallies-fit-spec : {M : Type 1} → statement M
 tallies-fit-spec =
@@ -64,11 +64,11 @@ tallies-fit-spec =
     each-year-requires
     slice-aggregate-each-year-2
     each-year-requires-2
-    both-requires
+    and-requires
     slice-aggregate-each-year-3
     each-year-requires-3
-    both-requires-2
+    and-requires-2
     slice-aggregate-each-year-4
     each-year-requires-4
-    both-requires-3
+    and-requires-3
     returns)

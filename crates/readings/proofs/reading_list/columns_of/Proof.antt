@@ -1,5 +1,5 @@
 -- `readings::columns_of` meets its contract: a walk of its MIR, by hand, with a loop. The `&` is looked into once, before the loop, and the three local arrays are laid out as rows (`Laid.antt`).
--- A turn copies one reading out of its row, calls `letter_of`, and stores one number in each column's row. After the loop the borrow is shut, and the rows are arrays again, of which the result is made.
+-- A turn copies one reading out of its row, calls `letter_of`, and stores one number in each column's row. After the loop the borrow is closed, and the rows are arrays again, of which the result is made.
 -- The invariant: each column is `copied` up to i (`Copied.antt`). The variant: what is left to count.
 use mathlib.Core.Path.{_≡_, refl, sym, _∙_, ap, subst}
 use Prim.Native.Nat.{ℕ, suc, _+_, _-_, _<_, _≤_, _*_, _^_, min, zero-le}
@@ -50,7 +50,7 @@ use denote.Triple.Clauses.{ensured, lasts}
 use denote.Triple.Table.{entered, cited}
 use denote.Triple.Walked.{says, Stays, stay-none-slice, walkOf, goes-none-slice, Walks, ends-at, walked, walk-meets}
 use denote.Exit.{yes}
-use Rattle.lists.proofs.Turns.{nearer, over}
+use Rattle.lists.proofs.FilledTables.{nearer, over}
 use Rattle.meaning.specs.Blocks.{letterOfKind}
 use Rattle.readings.specs.declared.Kind.{Kind}
 use Rattle.readings.specs.declared.Reading.{Reading}
@@ -62,10 +62,10 @@ use Rattle.readings.proofs.Reading as T
 use Rattle.readings.proofs.Reading.Laws as T′
 use Rattle.readings.proofs.Columns as B
 use Rattle.readings.proofs.Columns.Laws as B′
-use Rattle.readings.proofs.Row.{R, vals, typed, position-fits, count-fits, kind-is, bytes-fit, place-of}
-use Rattle.readings.proofs.Gone.{full, bare, gone}
-use Rattle.readings.proofs.Laid.{array, IsColumn, repeat-typed, column-typed, lays-out, picks-up}
-use Rattle.readings.proofs.Copied.{blank, blank-is, length-blank, copied, length-copied, within-copied, copied-all}
+use Rattle.readings.proofs.ReadingLayout.{R, vals, typed, position-fits, count-fits, kind-is, bytes-fit, place-of}
+use Rattle.readings.proofs.WalkEnds.{full, bare, gone}
+use Rattle.readings.proofs.LocalArrays.{array, IsColumn, repeat-typed, column-typed, lays-out, picks-up}
+use Rattle.readings.proofs.ColumnsSoFar.{blank, blank-is, length-blank, copied, length-copied, within-copied, copied-all}
 use Rattle.readings.proofs.reading_list.at_most as at-most
 use Rattle.readings.proofs.reading_list.at_most.Symbol as at-most-def
 use Rattle.readings.proofs.reading_list.at_most.Symbol.{name as #readings·reading-list·at-most}

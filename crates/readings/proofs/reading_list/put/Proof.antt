@@ -44,10 +44,10 @@ use Rattle.readings.specs.declared.Reading.{Reading}
 use Rattle.readings.specs.Readings.{fresh}
 use Rattle.readings.proofs.Reading as T
 use Rattle.readings.proofs.Reading.Laws as T′
-use Rattle.readings.proofs.Row.{R, vals, mach, typed, bytes-fit, place-of}
+use Rattle.readings.proofs.ReadingLayout.{R, vals, mach, typed, bytes-fit, place-of}
 use Rattle.readings.proofs.Laws.{put-past}
-use Rattle.readings.proofs.Kept.{slice-kept}
-use Rattle.readings.proofs.Gone.{gone}
+use Rattle.readings.proofs.ClosedBorrows.{slice-kept}
+use Rattle.readings.proofs.WalkEnds.{gone}
 use Rattle.readings.proofs.reading_list.put.Key.{name as #readings·reading-list·put}
 use Rattle.readings.proofs.reading_list.put as f
 use Rattle.readings.proofs.reading_list.put.Statement as stated

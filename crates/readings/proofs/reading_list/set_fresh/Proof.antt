@@ -49,7 +49,7 @@ use denote.Triple.Clauses.{ensured, lasts}
 use denote.Triple.Table.{entered, cited}
 use denote.Triple.Walked.{says, Stays, stay-slice, stay-none, walkOf, goes-slice, goes-none, Walks, ends-at, walked, walk-meets}
 use denote.Exit.{yes}
-use Rattle.lists.proofs.Turns.{nearer, over}
+use Rattle.lists.proofs.FilledTables.{nearer, over}
 use Rattle.readings.specs.declared.Kind.the-variants.{E}
 use Rattle.readings.specs.declared.Reading.{Reading}
 use Rattle.readings.specs.Readings.{fresh}
@@ -57,10 +57,10 @@ use Rattle.readings.proofs.Kind as K
 use Rattle.readings.proofs.Kind.Laws as K′
 use Rattle.readings.proofs.Reading as T
 use Rattle.readings.proofs.Reading.Laws as T′
-use Rattle.readings.proofs.Row.{R, vals, mach, typed, fresh-is, estimated-is, bytes-fit, place-of}
-use Rattle.readings.proofs.Kept.{slice-kept}
-use Rattle.readings.proofs.Gone.{gone}
-use Rattle.readings.proofs.Fills.{upTo, up-more, up-length, count, count-le, up-all}
+use Rattle.readings.proofs.ReadingLayout.{R, vals, mach, typed, fresh-is, estimated-is, bytes-fit, place-of}
+use Rattle.readings.proofs.ClosedBorrows.{slice-kept}
+use Rattle.readings.proofs.WalkEnds.{gone}
+use Rattle.readings.proofs.FreshSoFar.{upTo, up-more, up-length, count, count-le, up-all}
 use Rattle.readings.proofs.reading_list.count_if as count-if
 use Rattle.readings.proofs.reading_list.count_if.Symbol as count-if-def
 use Rattle.readings.proofs.reading_list.count_if.Symbol.{name as #readings·reading-list·count-if}

@@ -1,4 +1,4 @@
--- `by_default` meets its contract: the formula is parted by the divisor, and the parts fit. Assumes nothing.
+-- `by_default` meets its contract: the formula is split by the divisor, and the parts fit. Assumes nothing.
 use borrow.Author.Needs.{needs}
 use mathlib.Core.Path.{ap, sym, _∙_}
 use native.Mathlib.Nat.{mul-le-mul}

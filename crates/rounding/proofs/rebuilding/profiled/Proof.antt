@@ -1,4 +1,4 @@
--- `profiled` meets its contract: the formula is parted by the total, and the parts fit. Assumes nothing.
+-- `profiled` meets its contract: the formula is split by the total, and the parts fit. Assumes nothing.
 use borrow.Author.Needs.{needs}
 use mathlib.Core.Path.{ap, sym, _∙_}
 use native.Mathlib.Omega.{arith}

@@ -3,30 +3,30 @@ use native.Mathlib.Omega.{arith}
 use lib.ListN.{length, length-take}
 use borrow.Author.Needs.{needs}
 use borrow.Author.Tests.{not-true, not-false}
-use Rattle.site.specs.Views.{handsBack}
-use Rattle.run.specs.RunViews.{openedOf}
+use Rattle.record_calls.specs.Views.{callView}
+use Rattle.run.specs.RunViews.{callOfRun}
 use Rattle.run.proofs.Feeds.{join-fits, join-long, join-on, join-given}
 use Rattle.run.proofs.feeding.carry.Statement.{statement}
 use Rattle.run.proofs.feeding.carry.Tie as tie
 use Rattle.run.proofs.feeding.carry.Reads as reads
 use Rattle.run.proofs.feeding.carry.Lts as lts
 use Rattle.pieces.proofs.join.Reads as join-reads
-use Rattle.run.proofs.feeding.fed_on.Reads as fed-on-reads
+use Rattle.run.proofs.feeding.holding_more.Reads as holding-more-reads
 use Rattle.run.proofs.lines.feed_lines.Reads as feed-lines-reads
 use Rattle.own_calls.proofs.line_own.Reads as line-own-reads
 
 join-requires : tie.Need-join-requires
 join-requires c κs = search needs
 
-fed-on-requires : tie.Need-fed-on-requires
-fed-on-requires c κs = search needs
+holding-more-requires : tie.Need-holding-more-requires
+holding-more-requires c κs = search needs
 
 returns : tie.Need-returns
 returns c =
     let a = c .before .before .before .before .before .before .before .before .before .before .before .before .args in
     let j = c .before .before .before .before .join in
     let n : length (a .run .line) ≡ 321 = (let g = c .before .before .before .before .before .before .before .before .before .before .before .before .good .0 in search needs) in
-    rw (c .fed-on .ensures) (join-on (a .run .line) (a .piece .now) (a .run .held) (handsBack (openedOf (a .run)) _) n (c .before .before .before .before .before .before .before .before .before .before .before .before .pre) (j .result) (j .ensures) (not-true _ (c .before .if1 .taken)))
+    rw (c .holding-more .ensures) (join-on (a .run .line) (a .piece .now) (a .run .held) (callView (callOfRun (a .run)) _) n (c .before .before .before .before .before .before .before .before .before .before .before .before .pre) (j .result) (j .ensures) (not-true _ (c .before .if1 .taken)))
 
 array-share-prefix-line : tie.Need-array-share-prefix-line
 array-share-prefix-line c =
@@ -70,14 +70,14 @@ returns-2 c =
     let a = c .before .before .before .before .before .before .before .before .before .before .before .before .before .before .before .before .before .before .before .before .before .before .before .before .before .before .before .before .before .before .before .before .before .before .before .before .before .before .before .before .before .before .args in
     let j = c .before .before .before .before .before .before .before .before .before .before .before .before .before .before .before .before .before .before .before .before .before .before .before .before .before .before .before .before .before .before .before .before .before .before .join in
     let n : length (a .run .line) ≡ 321 = (let g = c .before .before .before .before .before .before .before .before .before .before .before .before .before .before .before .before .before .before .before .before .before .before .before .before .before .before .before .before .before .before .before .before .before .before .before .before .before .before .before .before .before .before .good .0 in search needs) in
-    c .before .before .before .before .before .before .before .before .feed-lines .ensures ∙ join-given (a .run .line) (a .piece .now) (a .run .held) (handsBack (openedOf (a .run)) _) n (c .before .before .before .before .before .before .before .before .before .before .before .before .before .before .before .before .before .before .before .before .before .before .before .before .before .before .before .before .before .before .before .before .before .before .before .before .before .before .before .before .before .before .pre) (j .result) (j .ensures) (not-false _ (c .before .before .before .before .before .before .before .before .before .before .before .before .before .before .before .before .before .before .before .before .before .before .before .before .before .before .before .before .before .before .before .if1 .left)) _ (c .before .before .before .before .before .before .before .before .before .before .before .before .before .before .before .before .before .before .before .before .before .before .before .before .line-own .ensures)
+    c .before .before .before .before .before .before .before .before .feed-lines .ensures ∙ join-given (a .run .line) (a .piece .now) (a .run .held) (callView (callOfRun (a .run)) _) n (c .before .before .before .before .before .before .before .before .before .before .before .before .before .before .before .before .before .before .before .before .before .before .before .before .before .before .before .before .before .before .before .before .before .before .before .before .before .before .before .before .before .before .pre) (j .result) (j .ensures) (not-false _ (c .before .before .before .before .before .before .before .before .before .before .before .before .before .before .before .before .before .before .before .before .before .before .before .before .before .before .before .before .before .before .before .if1 .left)) _ (c .before .before .before .before .before .before .before .before .before .before .before .before .before .before .before .before .before .before .before .before .before .before .before .before .line-own .ensures)
 
 pub carry-spec : {M : Type 1} → statement M
 carry-spec =
     tie.close
     (tie.spec
     join-requires
-    fed-on-requires
+    holding-more-requires
     returns
     array-share-prefix-line
     slice-aggregate-line-own

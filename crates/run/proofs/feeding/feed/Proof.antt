@@ -3,27 +3,27 @@ use borrow.Author.Needs.{needs}
 use Rattle.pieces.specs.Run as meant
 use Rattle.pieces.specs.Run.{fed}
 use Rattle.pieces.proofs.Feeding.{kept}
-use Rattle.readings.specs.Readings.{seen}
-use Rattle.readings.specs.Columns.{world}
-use Rattle.site.specs.Views.{handsBack}
-use Rattle.run.specs.RunViews.{openedOf, runView}
+use Rattle.readings.specs.Readings.{readingsView}
+use Rattle.readings.specs.Columns.{lentBlocks}
+use Rattle.record_calls.specs.Views.{callView}
+use Rattle.run.specs.RunViews.{callOfRun, runView}
 use Rattle.run.proofs.Feeds.{none-begun}
 use Rattle.run.proofs.feeding.feed.Statement.{statement}
 use Rattle.run.proofs.feeding.feed.Tie as tie
 use Rattle.run.proofs.feeding.feed.Reads as reads
 use Rattle.run.proofs.feeding.feed.Lts as lts
 use Rattle.run.proofs.feeding.carry.Reads as carry-reads
-use Rattle.run.proofs.opened_of.Reads as opened-of-reads
+use Rattle.run.proofs.call_of_run.Reads as call-of-run-reads
 use Rattle.run.proofs.lines.feed_lines.Reads as feed-lines-reads
-use Rattle.pieces.proofs.is_answered.Reads as is-answered-reads
+use Rattle.pieces.proofs.is_final.Reads as is-final-reads
 
-is-answered-requires : tie.Need-is-answered-requires
-is-answered-requires c κs = search needs
+is-final-requires : tie.Need-is-final-requires
+is-final-requires c κs = search needs
 
 returns : tie.Need-returns
 returns c =
     let a = c .before .before .before .before .before .before .before .before .args in
-    sym (kept (runView (a .run) (world (a .near .now) (a .far .now) (a .slots .now) (a .daily .now) (seen (a .lent)) (a .curve .now))) (a .piece .now) (sym (c .before .is-answered .ensures) ∙ c .if1 .taken))
+    sym (kept (runView (a .run) (lentBlocks (a .near .now) (a .far .now) (a .slots .now) (a .daily .now) (readingsView (a .lent)) (a .curve .now))) (a .piece .now) (sym (c .before .is-final .ensures) ∙ c .if1 .taken))
 
 carry-requires : tie.Need-carry-requires
 carry-requires c κs = search needs
@@ -43,8 +43,8 @@ same-length-4 c = search needs
 returns-2 : tie.Need-returns-2
 returns-2 c = search needs
 
-opened-of-requires : tie.Need-opened-of-requires
-opened-of-requires c κs = search needs
+call-of-run-requires : tie.Need-call-of-run-requires
+call-of-run-requires c κs = search needs
 
 feed-lines-requires : tie.Need-feed-lines-requires
 feed-lines-requires c κs = search needs
@@ -64,14 +64,14 @@ same-length-8 c = search needs
 returns-3 : tie.Need-returns-3
 returns-3 c =
     let a = c .before .before .before .before .before .before .before .before .before .before .before .before .before .before .before .before .before .before .before .before .before .before .before .before .before .args in
-    let o = handsBack (openedOf (a .run)) (world (a .near .now) (a .far .now) (a .slots .now) (a .daily .now) (seen (a .lent)) (a .curve .now)) in
-    (rw (c .before .before .before .before .before .before .before .before .before .before .before .before .before .opened-of .ensures) at (c .before .before .before .before .before .before .before .before .feed-lines .ensures)) ∙ ap (λ (r : meant.Run). fed r (a .piece .now)) (sym (none-begun o (a .run .line) (a .run .held) (c .before .before .before .before .before .before .before .before .before .before .before .before .before .before .before .if2 .left)))
+    let o = callView (callOfRun (a .run)) (lentBlocks (a .near .now) (a .far .now) (a .slots .now) (a .daily .now) (readingsView (a .lent)) (a .curve .now)) in
+    (rw (c .before .before .before .before .before .before .before .before .before .before .before .before .before .call-of-run .ensures) at (c .before .before .before .before .before .before .before .before .feed-lines .ensures)) ∙ ap (λ (r : meant.Run). fed r (a .piece .now)) (sym (none-begun o (a .run .line) (a .run .held) (c .before .before .before .before .before .before .before .before .before .before .before .before .before .before .before .if2 .left)))
 
 pub feed-spec : {M : Type 1} → statement M
 feed-spec =
     tie.close
     (tie.spec
-    is-answered-requires
+    is-final-requires
     returns
     carry-requires
     same-length
@@ -79,7 +79,7 @@ feed-spec =
     same-length-3
     same-length-4
     returns-2
-    opened-of-requires
+    call-of-run-requires
     feed-lines-requires
     same-length-5
     same-length-6

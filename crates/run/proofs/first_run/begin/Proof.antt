@@ -10,7 +10,7 @@ use Rattle.run.proofs.first_run.begin.Lts as lts
 use Rattle.run.proofs.start.Reads as start-reads
 use Rattle.own_calls.proofs.open_own.Reads as open-own-reads
 use Rattle.readings.proofs.fresh_readings.Reads as fresh-readings-reads
-use Rattle.site.proofs.Record.never_opened.Reads as never-opened-reads
+use Rattle.record_calls.proofs.Record.never_opened.Reads as never-opened-reads
 
 never-opened-requires : tie.Need-never-opened-requires
 never-opened-requires c κs = search needs

@@ -4,15 +4,15 @@ use native.Mathlib.Omega.{arith}
 use Prim.Native.Nat.{_+_, _-_, _≤_, min}
 use lib.ListN.{length, take, drop}
 use Rattle.lists.specs.Lists.{any}
-use Rattle.text.specs.Fields.{isStrange, tabAt}
+use Rattle.text.specs.Fields.{isInvalid, tabAt}
 use Rattle.text.specs.Numbers.{isNumber, valueFrom, valueOf, most}
-use Rattle.text.proofs.Laws.{tab-here, tab-on, tab-end, strange-on, number-on, value-on, numbered}
+use Rattle.text.proofs.Laws.{tab-here, tab-on, tab-end, invalid-on, number-on, value-on, numbered}
 use Rattle.text.proofs.number_fields.number.Statement.{statement}
 use Rattle.text.proofs.number_fields.number.Tie as tie
 
 abbrev Inv-loop : tie.InvT-loop
 Inv-loop s strange₀ formed₀ value₀ i₀ strange formed value i =
-    (i ≤ length s) × ((tabAt s ≡ i + tabAt (drop i s)) × ((strange ≡ any isStrange (take i s)) × ((formed ≡ isNumber (take i s)) × (value ≡ min (valueOf (take i s)) most))))
+    (i ≤ length s) × ((tabAt s ≡ i + tabAt (drop i s)) × ((strange ≡ any isInvalid (take i s)) × ((formed ≡ isNumber (take i s)) × (value ≡ min (valueOf (take i s)) most))))
 
 abbrev μ-loop : tie.MeasureT-loop
 μ-loop s strange₀ formed₀ value₀ i₀ strange formed value i = length s - i
@@ -24,22 +24,22 @@ loop-holds c = (omega arith, (omega arith, (refl, (refl, refl))))
 shared-slice-read-b : tie.Need-shared-slice-read-b Inv-loop μ-loop
 shared-slice-read-b c = search needs
 
-also-strange-requires : tie.Need-also-strange-requires Inv-loop μ-loop
-also-strange-requires c κs = search needs
+or-invalid-requires : tie.Need-or-invalid-requires Inv-loop μ-loop
+or-invalid-requires c κs = search needs
 
-goes-on-requires : tie.Need-goes-on-requires Inv-loop μ-loop
-goes-on-requires c κs = search needs
+is-number-with-requires : tie.Need-is-number-with-requires Inv-loop μ-loop
+is-number-with-requires c κs = search needs
 
 mul-capped : tie.Need-mul-capped Inv-loop μ-loop
 mul-capped c = search needs
 
-worth-requires : tie.Need-worth-requires Inv-loop μ-loop
-worth-requires c κs = search needs
+digit-value-requires : tie.Need-digit-value-requires Inv-loop μ-loop
+digit-value-requires c κs = search needs
 
 add-capped : tie.Need-add-capped Inv-loop μ-loop
 add-capped c =
     let b3 = c .before .before .before .before in
-    omega (arith, c .worth .ensures, b3 .shared-slice-known2 .given (b3 .before .before .loop .i))
+    omega (arith, c .digit-value .ensures, b3 .shared-slice-known2 .given (b3 .before .before .loop .i))
 
 capped-requires : tie.Need-capped-requires Inv-loop μ-loop
 capped-requires c κs = search needs
@@ -63,7 +63,7 @@ loop-again c =
     let t = b6 .loop-test .taken in
     let inv = b7 .loop .inv in
     let told = inv .1 .1 .1 in
-    (omega arith, (omega (arith, tab-on s i t (b4 .if1 .left)), (strange-on s i _ _ t (inv .1 .1 .0) (b3 .also-strange .ensures), (number-on s i _ _ _ t (told .0) (told .1) (b2 .goes-on .ensures), value-on s i _ _ t (told .1) (c .capped .ensures ∙ rw (b1 .worth .ensures))))))
+    (omega arith, (omega (arith, tab-on s i t (b4 .if1 .left)), (invalid-on s i _ _ t (inv .1 .1 .0) (b3 .or-invalid .ensures), (number-on s i _ _ _ t (told .0) (told .1) (b2 .is-number-with .ensures), value-on s i _ _ t (told .1) (c .capped .ensures ∙ rw (b1 .digit-value .ensures))))))
 
 returns : tie.Need-returns Inv-loop μ-loop
 returns c =
@@ -88,10 +88,10 @@ number-spec =
     μ-loop
     loop-holds
     shared-slice-read-b
-    also-strange-requires
-    goes-on-requires
+    or-invalid-requires
+    is-number-with-requires
     mul-capped
-    worth-requires
+    digit-value-requires
     add-capped
     capped-requires
     add-i

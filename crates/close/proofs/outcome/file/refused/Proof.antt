@@ -1,5 +1,5 @@
 use borrow.Author.Needs.{needs}
-use Rattle.close.specs.FileTold.{refusedBy}
+use Rattle.close.specs.FileOutcomes.{refusedBy}
 use Rattle.close.specs.Ends.{noYears}
 use Rattle.close.proofs.outcome.file.refused.Statement.{statement}
 use Rattle.close.proofs.outcome.file.refused.Tie as tie

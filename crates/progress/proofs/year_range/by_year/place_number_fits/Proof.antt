@@ -2,7 +2,7 @@ use mathlib.Core.Path.{sym}
 use borrow.Author.Needs.{needs}
 use borrow.Author.Tests.{lt-ltb, le-ltb, ne-eqb}
 use Rattle.progress.specs.YearRanges.{placeNumberFits}
-use Rattle.progress.proofs.Zero.{zero-fits}
+use Rattle.progress.proofs.ZeroFits.{zero-fits}
 use Rattle.progress.proofs.year_range.by_year.place_number_fits.Statement.{statement}
 use Rattle.progress.proofs.year_range.by_year.place_number_fits.Tie as tie
 

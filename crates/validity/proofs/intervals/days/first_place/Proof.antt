@@ -8,12 +8,12 @@ returns : tie.Need-returns
 unfolding firstPlace
 returns c = simp (eq-eqb (c .before .before .args .n) 0 (c .if1 .taken))
 
-place-requires : tie.Need-place-requires
-place-requires c κs = search needs
+position-of-requires : tie.Need-position-of-requires
+position-of-requires c κs = search needs
 
 returns-2 : tie.Need-returns-2
 unfolding firstPlace
-returns-2 c = simp (ne-eqb (c .before .before .before .args .n) 0 (c .before .if1 .left)) (c .place .ensures)
+returns-2 c = simp (ne-eqb (c .before .before .before .args .n) 0 (c .before .if1 .left)) (c .position-of .ensures)
 
 pub first-place-spec : {M : Type 1} → statement M
-first-place-spec = tie.close (tie.spec returns place-requires returns-2)
+first-place-spec = tie.close (tie.spec returns position-of-requires returns-2)

@@ -1,0 +1,2 @@
+pub mod EqualViews
+pub mod Opens
