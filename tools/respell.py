@@ -16,9 +16,10 @@ ROOT = os.path.join(os.getcwd(), "crates")
 PARTS = r"\w\-'·₀₁₂₃₄₅₆₇₈₉"
 TOKEN = re.compile(rf"(?<![{PARTS}])[{PARTS}]+(?![{PARTS}])")
 DECLARED = re.compile(r"^\s*(?:abbrev |unfoldable |pub )*(data |record |)([^\s:(){}=]+) :(?: |$)")
+SEVERAL = re.compile(r"^\s*((?:[^\s:(){}=→]+ )+[^\s:(){}=→]+) : [A-Z]\w*$")
 USE = re.compile(r"^\s*(?:pub |ghost )*use ([\w.+'·-]+?)(?:\.\{([^}]*)\}| as (\S+)|);?\s*$")
 # names whose snake case would say less than they mean
-CHOSEN = {"mW": "power_of"}
+CHOSEN = {"mW": "in_mw"}
 
 
 def files(ends):
@@ -57,6 +58,10 @@ def declared():
             m = DECLARED.match(line)
             if m and not line.strip().startswith("--") and m[2] not in ("use", "mod"):
                 at[m[2]].add(os.path.relpath(path, ROOT))
+            m = SEVERAL.match(line)
+            for n in m[1].split() if m else []:
+                if n != "pub":
+                    at[n].add(os.path.relpath(path, ROOT))
     return at
 
 
@@ -72,9 +77,9 @@ def fields():
             elif line.strip() and not line.strip().startswith("--"):
                 if len(line) - len(line.lstrip()) <= (inside if inside is not None else 1000):
                     inside = None
-                m = re.match(r"\s*(?:pub )?([^\s:(){}=|]+) :(?: |$)", line)
+                m = re.match(r"\s*(?:pub )?([^\s:(){}=|]+) :(?: |$)", line) or SEVERAL.match(line)
                 if inside is not None and m:
-                    found.add(m[1])
+                    found.update(m[1].split())
     return found
 
 
@@ -102,8 +107,8 @@ def outside(text, own):
     found = set()
     for line in text.split("\n"):
         m = USE.match(line)
-        if not m or re.match(r"Rattle\.(\w+)", m[1]) and re.match(r"Rattle\.(\w+)", m[1])[1] in own:
-            continue
+        if not m or re.match(r"[A-Z]\w*$", m[1]) or re.match(r"Rattle\.(\w+)", m[1]) and re.match(r"Rattle\.(\w+)", m[1])[1] in own:
+            continue  # a module below this file, or one of this repository
         for item in (m[2] or "").split(","):
             for part in item.split(" as "):
                 found.add(part.strip())
@@ -115,6 +120,9 @@ def outside(text, own):
 def respelled(text, new, skip, kind, proof, parts):
     """The text with the new names; in comments and in Rust's own text names with a dash stay, since there a dash is a dash."""
     out = []
+    # a lemma that gets `_lem` alone is renamed where it stands or is brought in, and not where a record has a label of its name
+    plain = {n for n in new if re.match(r"[a-z0-9_]+$", n) and not re.search(rf"(?m)^\s*(?:pub )?{n} :|^\s*(?:pub )?use .*[{{ ]{n}[,}}]", text)}
+    skip = skip | plain
     for line in text.split("\n"):
         mark = line.find("--") if kind == "antt" else line.find("//")
         code, comment = (line, "") if mark < 0 else (line[:mark], line[mark:])
@@ -124,12 +132,16 @@ def respelled(text, new, skip, kind, proof, parts):
             name = m[0]
             if name not in new or name in skip or not (dashes or "-" not in name):
                 return name
+            if kind == "rt" and re.match(r"[a-z0-9_]+$", name):
+                return name  # a function of src/
+            if re.match(r"\s*(pub |ghost )*use ", line) and m.string[m.end() : m.end() + 1] == ".":
+                return name  # a part of a module's path
             # behind a dot stands a field or a step of the code, never a lemma
             behind = m.start() > 0 and m.string[m.start() - 1] == "."
             step = behind and kind == "antt" and not re.match(r"\s*use ", line) and (proof or name not in parts)
             return re.sub("_lem$", "", new[name]) if step else new[name]
 
-        out.append(TOKEN.sub(lambda m: turn(m, dashes), code) + TOKEN.sub(lambda m: turn(m, False), comment))
+        out.append(TOKEN.sub(lambda m: turn(m, dashes), code) + TOKEN.sub(lambda m: m[0] if m[0] in CHOSEN else turn(m, False), comment))
     return "\n".join(out)
 
 
