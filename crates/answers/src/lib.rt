@@ -1,4 +1,6 @@
 // What a call answers, and the refusals that come before any other: 1, then 13, then 14 of a close.
+#![tactic(auto)]
+
 mod first_refusals; // 1 on the sizes of the lent blocks, and the order of 1, 13 and 14
 mod line_refusals; // 1 and 13 of a line
 
@@ -8,7 +10,7 @@ ghost use Rattle.answers.specs.Views.{answer_of};
 pub use first_refusals::{ended_refusal, sizes_fit};
 pub use line_refusals::line_refusal;
 
-#[derive(Drop)]
+#[derive(Clone, Copy)]
 pub enum Answer {
     Accepted,
     Refused {

@@ -1,4 +1,6 @@
 // The lent blocks of points, profile values and daily sums: where a year's row stands in them, and what a line stores.
+#![tactic(auto)]
+
 mod year_rows; // a year's row of points: a part of the near or of the far block
 mod point_rows; // the points of a C line, stored in its year's row
 mod stores; // the profile values of a P line and the sum of a D line, stored

@@ -1,5 +1,7 @@
 // Dates and where they stand: which dates there are, their places in a year's rows, the years of a site's history and axis, and positions on the axis.
 // 29 February has a place in every year, so that a place is the same date in each.
+#![tactic(auto)]
+
 mod dates; // leap years, months, dates and winter
 mod year_dates; // how many dates a year has
 mod rows; // the places of a year's rows, 0 to 365 for dates and 0 to 151 for winter dates, and which of them a year has
@@ -15,28 +17,28 @@ pub use spans::{axis, history, history_length, is_among};
 pub use year_dates::{all_dates, all_winter_dates};
 
 // Some consecutive years: the first, and how many.
-#[derive(Drop)]
+#[derive(Clone, Copy)]
 pub struct Years {
     pub first: u64,
     pub count: u64,
 }
 
 // A place or a position, where there is one.
-#[derive(Drop)]
+#[derive(Clone, Copy)]
 pub enum Place {
     At(usize),
     Nowhere,
 }
 
 // A month and its day, at a place that has one.
-#[derive(Drop)]
+#[derive(Clone, Copy)]
 pub enum Day {
     Of { month: u64, day: u64 },
     Nowhere,
 }
 
 // A date of the axis, at a position that has one.
-#[derive(Drop)]
+#[derive(Clone, Copy)]
 pub enum AxisDate {
     On { year: u64, month: u64, day: u64 },
     Nowhere,

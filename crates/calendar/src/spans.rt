@@ -17,7 +17,7 @@ pub fn history_length(filiere: u64) -> u64
     5
 }
 
-fn is_known_lem(al: u64, filiere: u64) -> bool
+fn is_known(al: u64, filiere: u64) -> bool
     ensures { result ≡ is_known al filiere }
 {
     if al < 2021 {
@@ -36,7 +36,7 @@ fn is_known_lem(al: u64, filiere: u64) -> bool
 pub fn history(al: u64, filiere: u64) -> Years
     ensures { result ≡ history_years al filiere }
 {
-    if !is_known_lem(al, filiere) {
+    if !is_known(al, filiere) {
         return Years { first: 0, count: 0 };
     }
     let count = history_length(filiere);

@@ -1,4 +1,6 @@
 // The close, on plain blocks and the parts of a record: 1, 13 and 14, then 15 to 18, else level, cases, points present and curve.
+#![tactic(auto)]
+
 mod whole; // the close
 mod refusals; // 1, 13 and 14
 mod file; // 15 to 18 and the curve, for a file that 1, 13 and 14 do not refuse

@@ -2,7 +2,7 @@
 use Rattle.std.specs.Prelude.{ℕ, ◌*◌, ◌≤◌}
 use Rattle.curve.specs.declared.place_sums.PlaceSum.{PlaceSum}
 
--- the sum over n places: no point is above 20,000,000,000,000 power_of after its rate
+-- the sum over n places: no point is above 20,000,000,000,000 mW after its rate
 pub record PlaceSumFits (n : ℕ) (t : PlaceSum) : Type 0 where
   pub sum : t.sum ≤ 20000000000000 * t.counted
   pub counted : t.counted ≤ n

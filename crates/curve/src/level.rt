@@ -4,7 +4,7 @@ ghost use Rattle.curve.specs.Places.{ncc_of};
 
 use rounding::Power;
 
-// The NCC in whole watts: C times the mean of the n present points, whose sum is in power_of.
+// The NCC in whole watts: C times the mean of the n present points, whose sum is in mW.
 pub fn ncc(al: u64, filiere: u64, sum: u64, n: u64) -> u64
     requires { (0 < n) × (n ≤ 4400) × (sum ≤ 20_000_000_000_000 * n) }
     ensures { result ≡ ncc_of al filiere sum n }

@@ -7,8 +7,8 @@ ghost use Rattle.curve.specs.PlaceSums.{entry_of_point, sum_of_point, plus as Ta
 use blocks::NO_ENTRY;
 use points::PlacePoint;
 
-// For some places: whether 18 holds, the sum in power_of of the present points, and their number.
-#[derive(Drop)]
+// For some places: whether 18 holds, the sum in mW of the present points, and their number.
+#[derive(Clone, Copy)]
 pub(crate) struct PlaceSum {
     pub exceeds: bool,
     pub sum: u64,

@@ -54,11 +54,11 @@ abbrev pub Demand-2 : Type 0
 Demand-2 = (s : Rec) (w : Blocks) → T (sizes_fit w) → (ls : List Line) → run s w ls ≡ outcome_of ls
 
 -- ---- demand 3
--- the bound in power_of over 2 × T: 500 from whole watts, a half where rates round, and so many halves, before the rate, times 1000 / T
+-- the bound in mW over 2 × T: 500 from whole watts, a half where rates round, and so many halves, before the rate, times 1000 / T
 unfoldable pub bound_over : ℕ → ℕ → ℕ → ℕ
 bound_over halves rates t = 1000 * t + rates * t + 1000 * halves
 
--- 1000 × n power_of lie within the bound of the fraction q, whose denominator is not 0
+-- 1000 × n mW lie within the bound of the fraction q, whose denominator is not 0
 pub record Within (halves rates t n : ℕ) (q : Fraction) : Type 0 where
   pub positive : 0 < q.den
   pub least : 0 < t

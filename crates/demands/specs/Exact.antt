@@ -1,4 +1,4 @@
--- The exact fraction in power_of: the same chain with no rounding anywhere (document 01, What demand 3 compares).
+-- The exact fraction in mW: the same chain with no rounding anywhere (document 01, What demand 3 compares).
 use mathlib.Core.List.{List, map, foldr}
 use Rattle.std.proofs.Math.Option.{Option, some, none}
 use Rattle.std.specs.Prelude.{ℕ, ◌+◌, ◌*◌, length}

@@ -1,5 +1,5 @@
 -- When a run stops reading, and what it returns (document 01, The printed sheet).
-use Rattle.std.specs.Prelude.{◌≡◌, Bool, true, false, cond, List, [], ℕ, ◌-◌, eqb, ℤ, pos, negsuc}
+use Rattle.std.specs.Prelude.{◌≡◌, Bool, true, false, cond, List, [], ℕ, ◌-◌, eqb}
 use Rattle.close.specs.declared.outcome.file.YearRow.{YearRow}
 use Rattle.answers.specs.declared.Answer as answers
 use Rattle.sheet.specs.SheetTexts.{sheet_text, Holds}
@@ -10,11 +10,6 @@ use Rattle.file_run.specs.declared.ends.FileResult.{FileResult}
 
 abbrev pub read_state : ℕ → End → ReadState
 read_state n e = record { turns = n; end = e }
-
--- a read that failed returns a negative number
-abbrev pub is_negative : ℤ → Bool
-is_negative (pos k) = false
-is_negative (negsuc k) = true
 
 -- a failed read, no bytes, and a final answer each leave no further read
 unfoldable pub read_state_after : Bool → ℕ → Bool → ℕ → ReadState

@@ -1,14 +1,15 @@
 // When a run stops reading, and what it returns.
 ghost use Rattle.std.specs.Prelude.{◌≡◌, ◌<◌};
-ghost use Rattle.file_run.specs.ReadEnds.{is_negative, read_state_after, FileResultIs};
+ghost use Rattle.file_run.specs.ReadEnds.{read_state_after, FileResultIs};
 
 use answers::Answer;
 use close::YearRow;
 use pieces::smaller;
 use sheet::{Printed, text};
+use std::io::Write;
 
 // What ended a run: its final answer, the input's end, or a read that failed.
-#[derive(Drop)]
+#[derive(Clone, Copy)]
 pub enum End {
     Answer,
     Input,
@@ -16,25 +17,25 @@ pub enum End {
 }
 
 // What ended the run, and the sheet's text, none where a read failed.
-#[derive(Drop)]
+#[derive(Clone, Copy)]
 pub struct FileResult {
     pub end: End,
     pub printed: Printed,
 }
 
 // How many reads are left, and what ended the run if none is.
-#[derive(Drop)]
+#[derive(Clone, Copy)]
 pub(crate) struct ReadState {
     pub turns: u64,
     pub end: End,
 }
 
-// The state after a read, by what it returned, the bytes that came, whether the run then had its final answer, and how many reads were left.
-pub(crate) fn read_state_after(got: isize, bytes: usize, answered: bool, turns: u64) -> ReadState
+// The state after a read, by whether it failed, the bytes that came, whether the run then had its final answer, and how many reads were left.
+pub(crate) fn read_state_after(failed: bool, bytes: usize, answered: bool, turns: u64) -> ReadState
     requires { 0 < turns }
-    ensures { result ≡ read_state_after (is_negative got) bytes answered turns }
+    ensures { result ≡ read_state_after failed bytes answered turns }
 {
-    if got < 0 {
+    if failed {
         return ReadState {
             turns: 0,
             end: End::Failure,
@@ -83,8 +84,8 @@ pub(crate) fn file_result(end: End, answer: Answer, years: [YearRow; 10]) -> Fil
 }
 
 // Writes a sheet's text, and returns whether all of it was written.
-pub fn write(fd: i32, printed: Printed) -> bool {
+pub fn write<W: Write>(to: &mut W, printed: Printed) -> bool {
     let bytes = printed.bytes;
     let n = smaller(printed.length, 546);
-    io::write_all(fd, &bytes[..n])
+    to.write_all(&bytes[..n]).is_ok()
 }

@@ -1,5 +1,7 @@
-// A run from opening to sheet: over an input that is lent whole, or over what a file descriptor gives, read in pieces up to the run's final answer or
-// the input's end.
+// A run from opening to sheet: over an input that is lent whole, or over what a reader gives, read in pieces up to the run's final answer or the
+// input's end.
+#![tactic(auto)]
+
 mod whole_input; // an input that is lent whole
 mod reading; // the loop over what is read
 mod ends; // when a run stops reading, and what it returns

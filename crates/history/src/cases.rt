@@ -8,7 +8,7 @@ use crate::ValidYears;
 use line_form::Meter;
 
 // Measured; profiled (T1, P); rebuilt from curves (T2) or from profiled years (T3, I5); default power (T4, I6).
-#[derive(Drop)]
+#[derive(Clone, Copy)]
 pub enum Case {
     M,
     T1,

@@ -1,5 +1,7 @@
 // The history years: which are valid, the case of each (document 01, Cases), CA, and what a winter day needs of each. Each array has a place for the
 // ten years of the longest history, from the oldest on. A year that the file does not have is not valid, has case M and no default power.
+#![tactic(auto)]
+
 mod valid; // valid curves and valid indexes
 mod cases; // the case of each year, the first that fits, and which years have default power
 mod ca; // CA of each year, and their sum
@@ -11,7 +13,7 @@ pub use valid::valid_years;
 pub use winter_days::day_of;
 
 // By history year, whether its curve is valid, and whether its index is.
-#[derive(Drop)]
+#[derive(Clone, Copy)]
 pub struct ValidYears {
     pub curves: [bool; 10],
     pub indexes: [bool; 10],
@@ -19,7 +21,7 @@ pub struct ValidYears {
 
 // By history year, for one winter day: E and daily total of the interval around it, and whether the year is an index donor. The arrays are lent one
 // by one to each half-hour, so that none is copied.
-#[derive(Drop)]
+#[derive(Clone, Copy)]
 pub struct DayData {
     pub energies: [u64; 10],
     pub totals: [u64; 10],

@@ -2,7 +2,7 @@
 use Rattle.std.specs.Prelude.{◌≡◌, Bool, false, ◌&&◌, not, ℕ, eqb, leb}
 use Rattle.calendar.specs.declared.Years.{Years}
 use Rattle.calendar.specs.Spans.{years}
-use Rattle.meaning.specs.Filing.{Meter, noMeter}
+use Rattle.meaning.specs.Filing.{Meter, no_meter}
 use Rattle.meaning.specs.Line.{Line, Tag, tag_of}
 use Rattle.meaning.specs.Refusals.{Before, is_illegible, is_unknown}
 use Rattle.meaning.specs.Record.{misplaced_by}
@@ -42,7 +42,7 @@ before_like last m h k i n c = record {
 -- ---- what the checks of each tag need of it
 -- S
 unfoldable pub before_first : ℕ → Before
-before_first last = before_like last noMeter (years 0 0) 0 0 0 0
+before_first last = before_like last no_meter (years 0 0) 0 0 0 0
 
 -- C
 unfoldable pub before_points : ℕ → Meter → Years → ℕ → Before
@@ -50,12 +50,12 @@ before_points last m h k = before_like last m h k 0 0 0
 
 -- D, P, B, R
 unfoldable pub before_rising : ℕ → Years → ℕ → Before
-before_rising last h k = before_like last noMeter h k 0 0 0
+before_rising last h k = before_like last no_meter h k 0 0 0
 
 -- X
 unfoldable pub before_reading : ℕ → Years → ℕ → ℕ → ℕ → Before
-before_reading last h k i n = before_like last noMeter h k i n 0
+before_reading last h k i n = before_like last no_meter h k i n 0
 
 -- E
 unfoldable pub before_end : ℕ → ℕ → Before
-before_end last c = before_like last noMeter (years 0 0) 0 0 0 c
+before_end last c = before_like last no_meter (years 0 0) 0 0 0 c

@@ -3,7 +3,7 @@ use Rattle.std.specs.Prelude.{Bool, false, ◌||◌, not, ℕ, eqb, ltb}
 use Rattle.std.proofs.Math.Option.{Option, some, none}
 use Rattle.lists.specs.Lists.{first_of}
 use Rattle.meaning.specs.Line.{Tag, rank}
-use Rattle.meaning.specs.Refusals.{Reason, illegible, unknown, misplaced, malformed, outside, noDate, not_later, tooSoon, falling, tooMany, miscounted, number_of, order}
+use Rattle.meaning.specs.Refusals.{Reason, illegible, unknown, misplaced, malformed, outside, no_date, not_later, too_soon, falling, too_many, miscounted, number_of, order}
 use Rattle.line_checks.specs.declared.order.Checks.{Checks}
 
 -- the number of a refusal, 0 for none
@@ -37,11 +37,11 @@ asked c unknown = false
 asked c misplaced = c.misplaced
 asked c malformed = c.malformed
 asked c outside = c.outside
-asked c noDate = c.no_date
+asked c no_date = c.no_date
 asked c not_later = c.not_later
-asked c tooSoon = c.too_soon
+asked c too_soon = c.too_soon
 asked c falling = c.falling
-asked c tooMany = c.too_many
+asked c too_many = c.too_many
 asked c miscounted = c.miscounted
 
 unfoldable pub first_refusal : Checks → ℕ

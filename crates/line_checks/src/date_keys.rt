@@ -35,7 +35,7 @@ pub fn winter_at(month: u64, day: u64) -> usize
 }
 
 // The position of a date on the axis, 0 where it has none.
-pub fn position_at_lem(al: u64, filiere: u64, year: u64, month: u64, day: u64) -> usize
+pub fn position_at(al: u64, filiere: u64, year: u64, month: u64, day: u64) -> usize
     ensures { result ≡ place_or (position_in (axis_years (history_years al filiere)) year month day) }
 {
     or_zero(position(al, filiere, year, month, day))

@@ -8,7 +8,7 @@ ghost use Rattle.line_checks.specs.Before.{is_not_later};
 use line_form::{END_TAG, NO_TAG, Tag, rank};
 
 // Which of 4 to 12 hold for a line.
-#[derive(Drop)]
+#[derive(Clone, Copy)]
 pub struct Checks {
     pub misplaced: bool,
     pub malformed: bool,
@@ -96,7 +96,7 @@ pub fn is_not_later(last: u64, key: u64) -> bool
 }
 
 // Whether a number is from low to high (6).
-pub fn is_within_lem(n: u64, low: u64, high: u64) -> bool
+pub fn is_within(n: u64, low: u64, high: u64) -> bool
     ensures { result ≡ is_within low high n }
 {
     if n < low {

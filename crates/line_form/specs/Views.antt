@@ -1,6 +1,6 @@
 -- A tag, and the site of an S line, in the code and in the definitions of document 01.
 use Rattle.meaning.specs.Filing as meant
-use Rattle.meaning.specs.Filing.{noMeter, curveMeter, indexMeter, site}
+use Rattle.meaning.specs.Filing.{no_meter, curve_meter, index_meter, site}
 use Rattle.meaning.specs.Line as lines
 use Rattle.line_form.specs.declared.Tag.{Tag}
 use Rattle.line_form.specs.declared.Tag.TheVariants.{S, C, X, D, P, B, R, E, Unknown}
@@ -20,18 +20,18 @@ tag_view E = lines.E
 tag_view Unknown = lines.other
 
 abbrev pub meter_view : Meter → meant.Meter
-meter_view NoMeter = noMeter
-meter_view Curve = curveMeter
-meter_view Index = indexMeter
+meter_view NoMeter = no_meter
+meter_view Curve = curve_meter
+meter_view Index = index_meter
 
 abbrev pub site_view : Site → meant.Site
 site_view s = site s.al s.filiere (meter_view s.meter) s.ps
 
 -- from the definitions to the code
 abbrev pub meter_repr : meant.Meter → Meter
-meter_repr noMeter = NoMeter
-meter_repr curveMeter = Curve
-meter_repr indexMeter = Index
+meter_repr no_meter = NoMeter
+meter_repr curve_meter = Curve
+meter_repr index_meter = Index
 
 abbrev pub site_repr : meant.Site → Site
 site_repr s = record { al = s.al; filiere = s.filiere; meter = meter_repr s.meter; ps = s.ps }

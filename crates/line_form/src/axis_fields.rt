@@ -9,7 +9,7 @@ use readings::{Kind, is_kind, kind_of};
 use text::and;
 
 // What an X line says, and whether its fields are in their form.
-#[derive(Drop)]
+#[derive(Clone, Copy)]
 pub struct ReadingRead {
     pub formed: bool,
     pub year: u64,
@@ -20,7 +20,7 @@ pub struct ReadingRead {
 }
 
 // What a D line says, and whether its fields are in their form.
-#[derive(Drop)]
+#[derive(Clone, Copy)]
 pub struct DailyRead {
     pub formed: bool,
     pub year: u64,

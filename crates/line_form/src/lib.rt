@@ -3,6 +3,8 @@
 // A field is kept as its shape (a number, the edition, a single byte, or none of these) and its number, capped at 10^18, which is above every field's
 // range: 3 to 12 use shapes and numbers, and no byte is read again. The reader of a tag takes the fields of any line and says whether each field
 // after the tag is in its form (5).
+#![tactic(auto)]
+
 mod shapes; // the shape of a field
 mod table; // all fields of a line, and whether it is legible (2)
 mod tags; // the tag of a line, and whether it has the tag's number of fields (3)
@@ -20,7 +22,7 @@ pub use values::{read_points, read_profiles};
 pub use year_fields::{read_count, read_rate, read_year};
 
 // The tags in file order; Unknown for a line with an unknown tag or a wrong number of fields (3).
-#[derive(Drop)]
+#[derive(Clone, Copy)]
 pub enum Tag {
     S,
     C,
@@ -39,7 +41,7 @@ pub const NO_TAG: u64 = 0;
 pub const END_TAG: u64 = 8;
 
 // T is a curve meter, I an index meter.
-#[derive(Drop)]
+#[derive(Clone, Copy)]
 pub enum Meter {
     NoMeter,
     Curve,
@@ -47,7 +49,7 @@ pub enum Meter {
 }
 
 // What S says: AL, filière, meter, and the retained power PS in W.
-#[derive(Drop)]
+#[derive(Clone, Copy)]
 pub struct Site {
     pub al: u64,
     pub filiere: u64,
@@ -56,7 +58,7 @@ pub struct Site {
 }
 
 // The shape of a field; a single digit is a number.
-#[derive(Drop)]
+#[derive(Clone, Copy)]
 pub enum Shape {
     Number,
     Edition,
@@ -65,14 +67,14 @@ pub enum Shape {
 }
 
 // A field: its shape, and its number, capped at 10^18.
-#[derive(Drop)]
+#[derive(Clone, Copy)]
 pub struct Field {
     pub shape: Shape,
     pub value: u64,
 }
 
 // The number of fields of a line, 25 where there are more than 24 and 0 where the line is illegible (2); and the fields.
-#[derive(Drop)]
+#[derive(Clone, Copy)]
 pub struct Fields {
     pub count: usize,
     pub fields: [Field; 24],

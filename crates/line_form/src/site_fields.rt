@@ -12,13 +12,14 @@ use crate::{Field, Fields, Meter, Shape, Site};
 use text::and;
 
 // What an S line says, and whether its fields are in their form.
-#[derive(Drop)]
+#[derive(Clone, Copy)]
 pub struct SiteRead {
     pub formed: bool,
     pub site: Site,
 }
 
 // The meter of a letter, T or I.
+#[tactic(auto, unfolding(meaning::specs::Line::meter_of_letter))]
 fn meter_of(letter: u8) -> Meter
     ensures { result ≡ meter_repr (meter_of_letter letter) }
 {
@@ -52,6 +53,7 @@ fn is_edition(field: Field) -> bool
 }
 
 // 9: filières 6 to 11 are certified only from AL 2023 on.
+#[tactic(auto, unfolding(meaning::specs::Refusals::is_too_soon))]
 pub fn is_too_soon(al: u64, filiere: u64) -> bool
     ensures { result ≡ is_too_soon al filiere }
 {

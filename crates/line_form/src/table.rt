@@ -24,6 +24,7 @@ fn illegible() -> Fields
 }
 
 // The fields of a line, each split off what is left after the one before it; none where the line is illegible (2).
+#[tactic(auto, using(crate::proofs::ReadFields::long_line))]
 pub fn read_fields(line: &[u8]) -> Fields
     ensures { result ≡ fields_of line.now }
 {

@@ -8,6 +8,7 @@ ghost use Rattle.line_form.specs.Tags.{known_tag};
 use crate::parts::byte_of;
 use crate::{Fields, Tag};
 
+#[tactic(auto, unfolding(meaning::specs::Line::tag_of_letter))]
 fn tag_of(letter: u8) -> Tag
     ensures { tag_view result ≡ tag_of_letter letter }
 {

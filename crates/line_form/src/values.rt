@@ -11,7 +11,7 @@ use crate::{DASH, Fields};
 use text::and;
 
 // A C or P line without its values: whether every field after the tag is in its form, and the numbers of its date, capped at 10^18.
-#[derive(Drop)]
+#[derive(Clone, Copy)]
 pub struct DateRead {
     pub formed: bool,
     pub year: u64,
@@ -20,7 +20,7 @@ pub struct DateRead {
 }
 
 // The codes of 20 values, and whether all are in their form.
-#[derive(Drop)]
+#[derive(Clone, Copy)]
 struct Row {
     formed: bool,
     codes: [u64; 20],

@@ -8,14 +8,14 @@ use crate::parts::is_number;
 use text::and;
 
 // What a B line says, and whether its fields are in their form.
-#[derive(Drop)]
+#[derive(Clone, Copy)]
 pub struct YearRead {
     pub formed: bool,
     pub year: u64,
 }
 
 // What an R line says, and whether its fields are in their form.
-#[derive(Drop)]
+#[derive(Clone, Copy)]
 pub struct RateRead {
     pub formed: bool,
     pub year: u64,
@@ -23,7 +23,7 @@ pub struct RateRead {
 }
 
 // What an E line says, and whether its fields are in their form.
-#[derive(Drop)]
+#[derive(Clone, Copy)]
 pub struct CountRead {
     pub formed: bool,
     pub count: u64,

@@ -1,5 +1,7 @@
 // A line by its tag: refused by one of 4 to 12, or taken into the progress and the lent blocks. For each tag one function checks the line (checks)
 // and one applies it (changes); a refused line changes nothing.
+#![tactic(auto)]
+
 mod site_and_end; // S and E
 mod points_and_profiles; // C and P: 20 values at a winter date
 mod readings_and_sums; // X and D: a number at a date of the axis; the caller stores the reading

@@ -2,7 +2,7 @@
 use Rattle.std.specs.Prelude.{Bool, ◌&&◌, cond, List, ℕ, ◌+◌, ◌-◌, ◌*◌, eqb, leb, length, get_or, replicate}
 use Rattle.std.proofs.Math.Option.{Option, some, none}
 use Rattle.lists.specs.Lists.{tab, or_else}
-use Rattle.meaning.specs.Filing.{Reading, reading, Kind, real, corrected, estimated, noKind}
+use Rattle.meaning.specs.Filing.{Reading, reading, Kind, real, corrected, estimated, no_kind}
 use Rattle.meaning.specs.Level.{missing_entry}
 
 -- every list that a call is lent
@@ -46,7 +46,7 @@ abbrev pub letter_of_kind : Kind → ℕ
 letter_of_kind real = 82
 letter_of_kind corrected = 67
 letter_of_kind estimated = 69
-letter_of_kind noKind = 0
+letter_of_kind no_kind = 0
 
 -- at position 0, count 0, kind E
 abbrev pub fresh_reading : Reading

@@ -6,7 +6,7 @@ use Rattle.calendar.specs.declared.Years.{Years}
 use Rattle.calendar.specs.Spans.{history_years, axis_years, position_of}
 use Rattle.note.specs.Coefficients.{ca_of}
 use Rattle.text.specs.Fields.{field_at}
-use Rattle.meaning.specs.Filing.{Site, no_site, Meter, noMeter, curveMeter, indexMeter, Reading, reading, Filing}
+use Rattle.meaning.specs.Filing.{Site, no_site, Meter, no_meter, curve_meter, index_meter, Reading, reading, Filing}
 use Rattle.meaning.specs.Line.{Line, Tag, S, C, X, D, P, B, R, E, rank, is, tag_of, number_at, year_on, month_on, day_on, site_on, value_at, point_of, kind_of, is_rising, key_of, winter_on, place_on}
 use Rattle.meaning.specs.Refusals.{Before, Reason, refusal}
 
@@ -26,9 +26,9 @@ unfoldable pub rules_out : Tag → Tag → Bool
 rules_out k t = ltb (rank t) (rank k) || (is S t || is E k)
 
 abbrev pub is_index_meter : Meter → Bool
-is_index_meter noMeter = false
-is_index_meter curveMeter = false
-is_index_meter indexMeter = true
+is_index_meter no_meter = false
+is_index_meter curve_meter = false
+is_index_meter index_meter = true
 
 -- any first line but S; after that a line that some line rules out, or C in an I file
 unfoldable pub misplaced_in : List Line → Tag → Bool

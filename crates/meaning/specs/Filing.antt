@@ -7,7 +7,7 @@ use Rattle.calendar.specs.Spans.{history_years, axis_years, year_at, place_at}
 
 -- T curve meter, I index meter; none until S is taken
 pub data Meter : Type 0 where
-  noMeter curveMeter indexMeter : Meter
+  no_meter curve_meter index_meter : Meter
 
 -- what S says: AL, filière, meter, and the retained power PS in W
 pub record Site : Type 0 where
@@ -20,17 +20,17 @@ abbrev pub site : ℕ → ℕ → Meter → ℕ → Site
 site a f m p = record { al = a; filiere = f; meter = m; ps = p }
 
 unfoldable pub no_site : Site
-no_site = site 0 0 noMeter 0
+no_site = site 0 0 no_meter 0
 
 -- R real, C corrected, E estimated
 pub data Kind : Type 0 where
-  real corrected estimated noKind : Kind
+  real corrected estimated no_kind : Kind
 
 abbrev pub is_trusted : Kind → Bool
 is_trusted real = true
 is_trusted corrected = true
 is_trusted estimated = false
-is_trusted noKind = false
+is_trusted no_kind = false
 
 -- a reading at 00:00 of the day at a position on the axis, in Wh
 pub record Reading : Type 0 where

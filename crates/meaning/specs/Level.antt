@@ -10,7 +10,7 @@ use Rattle.meaning.specs.Filing.{Filing, history_of, history_list}
 use Rattle.meaning.specs.Cases.{Case, case_of}
 use Rattle.meaning.specs.Points.{CurvePlace, place_of, year_places, all_places, point_at, applied_rate}
 
--- the points that are present, in power_of
+-- the points that are present, in mW
 unfoldable pub points_in : List CurvePlace → List ℕ
 points_in qs = present (map point_at qs)
 

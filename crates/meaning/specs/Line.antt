@@ -2,12 +2,11 @@
 use Rattle.std.specs.Prelude.{Bool, true, false, ◌&&◌, ◌||◌, cond, List, [], ◌∷◌, ℕ, ◌+◌, ◌*◌, eqb, leb, replicate}
 use Rattle.std.proofs.Math.Option.{Option, some, none}
 use Rattle.calendar.specs.declared.Years.{Years}
-use Rattle.calendar.specs.Dates.{is_winter}
 use Rattle.calendar.specs.Places.{date_place, winter_place}
 use Rattle.calendar.specs.Spans.{axis_years, among}
 use Rattle.text.specs.Fields.{up_to, past, field_at, reads, edition as editionText}
 use Rattle.text.specs.Numbers.{is_number, value_of, is_dash}
-use Rattle.meaning.specs.Filing.{Meter, noMeter, curveMeter, indexMeter, Site, site, Kind, real, corrected, estimated, noKind}
+use Rattle.meaning.specs.Filing.{Meter, no_meter, curve_meter, index_meter, Site, site, Kind, real, corrected, estimated, no_kind}
 
 -- bytes, without the byte 10 that ends it
 abbrev pub Line : Type 0
@@ -98,32 +97,32 @@ size other = 0
 
 -- T curve meter, I index meter
 unfoldable pub meter_of_letter : ℕ → Meter
-meter_of_letter b = cond (eqb b 84) curveMeter (cond (eqb b 73) indexMeter noMeter)
+meter_of_letter b = cond (eqb b 84) curve_meter (cond (eqb b 73) index_meter no_meter)
 
 unfoldable pub meter_of : List ℕ → Meter
-meter_of [] = noMeter
+meter_of [] = no_meter
 meter_of (b ∷ []) = meter_of_letter b
-meter_of (b ∷ c ∷ f) = noMeter
+meter_of (b ∷ c ∷ f) = no_meter
 
 abbrev pub is_meter : Meter → Bool
-is_meter noMeter = false
-is_meter curveMeter = true
-is_meter indexMeter = true
+is_meter no_meter = false
+is_meter curve_meter = true
+is_meter index_meter = true
 
 -- R real, C corrected, E estimated
 unfoldable pub kind_of_letter : ℕ → Kind
-kind_of_letter b = cond (eqb b 82) real (cond (eqb b 67) corrected (cond (eqb b 69) estimated noKind))
+kind_of_letter b = cond (eqb b 82) real (cond (eqb b 67) corrected (cond (eqb b 69) estimated no_kind))
 
 unfoldable pub kind_of : List ℕ → Kind
-kind_of [] = noKind
+kind_of [] = no_kind
 kind_of (b ∷ []) = kind_of_letter b
-kind_of (b ∷ c ∷ f) = noKind
+kind_of (b ∷ c ∷ f) = no_kind
 
 abbrev pub is_kind : Kind → Bool
 is_kind real = true
 is_kind corrected = true
 is_kind estimated = true
-is_kind noKind = false
+is_kind no_kind = false
 
 -- 5: whether a field is in its form
 unfoldable pub in_form : Form → List ℕ → Bool

@@ -9,14 +9,14 @@ use Rattle.note.specs.Coefficients.{theta}
 use Rattle.rounding.specs.Points.{Fraction, over, rounded, profiled, rebuilt, by_default, rated, exceeds}
 use Rattle.meaning.specs.Filing.{Filing, history_list, axis_of}
 use Rattle.meaning.specs.Validity.{Interval, intervals, has_day, energy_of, total_of, curve_valid, index_valid, half_hours}
-use Rattle.meaning.specs.Cases.{Case, caseM, case1, case2, case3, case4, caseP, case5, case6, case_of}
+use Rattle.meaning.specs.Cases.{Case, case_m, case1, case2, case3, case4, case_p, case5, case6, case_of}
 
 -- a point from its own year: as read, in W, or profiled from E, the profile value and the interval's daily sums
 pub data Origin : Type 0 where
   as_read : ℕ → Origin
   by_profile : ℕ → ℕ → ℕ → Origin
 
--- its fraction in power_of
+-- its fraction in mW
 unfoldable pub fraction_of : Origin → Fraction
 fraction_of (as_read w) = over (1000 * w) 1
 fraction_of (by_profile e p t) = profiled e p t
@@ -98,19 +98,19 @@ unfoldable pub default_at : Filing → ℕ → ℕ → ℕ → Source
 default_at F y w h = from_default F.site.ps (theta F.site.filiere) (F.profile y w h) (F.ca y) (history_length F.site.filiere) (history_cas F)
 
 unfoldable pub source_by : Case → Filing → ℕ → ℕ → ℕ → Source
-source_by caseM F y w h = own_of (read_at F y w h)
+source_by case_m F y w h = own_of (read_at F y w h)
 source_by case1 F y w h = own (profiled_at F y w h)
 source_by case2 F y w h = rebuilt_by (F.ca y) (curve_donors F w h)
 source_by case3 F y w h = rebuilt_by (F.ca y) (index_donors F w h)
 source_by case4 F y w h = default_at F y w h
-source_by caseP F y w h = own (profiled_at F y w h)
+source_by case_p F y w h = own (profiled_at F y w h)
 source_by case5 F y w h = rebuilt_by (F.ca y) (index_donors F w h)
 source_by case6 F y w h = default_at F y w h
 
 unfoldable pub source_at : Filing → ℕ → ℕ → ℕ → Source
 source_at F y w h = source_by (case_of F y) F y w h
 
--- ---- the point in power_of before its rate, rounded to nearest, half up; donor points are rounded first
+-- ---- the point in mW before its rate, rounded to nearest, half up; donor points are rounded first
 unfoldable pub rounded_origin : Origin → ℕ
 rounded_origin o = rounded (fraction_of o)
 
@@ -126,7 +126,7 @@ rounded_point (own o) = some (rounded_origin o)
 rounded_point (from_donors ca ds) = some (rounded (rebuilt ca (donor_points ds) (donor_cas ds)))
 rounded_point (from_default ps th p ca n cas) = some (rounded (by_default ps th p ca n cas))
 
--- ---- 18: what exceeds 200,000,000,000 power_of; measured points are never checked
+-- ---- 18: what exceeds 200,000,000,000 mW; measured points are never checked
 unfoldable pub origin_exceeds : Origin → Bool
 origin_exceeds (as_read w) = false
 origin_exceeds (by_profile e p t) = exceeds (rounded_origin (by_profile e p t))
@@ -161,7 +161,7 @@ year_places F y = flat (map (λ w. tab half_hours 0 (place_of F y w)) (peak_days
 unfoldable pub all_places : Filing → List CurvePlace
 all_places F = flat (map (year_places F) (history_list F))
 
--- the point after its rate, in power_of
+-- the point after its rate, in mW
 unfoldable pub rated_by : Option ℕ → Option ℕ → Option ℕ
 rated_by r none = none
 rated_by r (some p) = some (with_rate r p)

@@ -7,7 +7,7 @@ use Rattle.calendar.specs.Dates.{is_winter, all_winter_dates, all_dates}
 use Rattle.calendar.specs.Places.{has_date, has_winter_date, month_of}
 use Rattle.calendar.specs.Spans.{among, history_years, axis_years, year_at, place_at}
 use Rattle.note.specs.Coefficients.{ca_of}
-use Rattle.meaning.specs.Filing.{Meter, Site, no_site, Reading, Kind, Filing}
+use Rattle.meaning.specs.Filing.{Meter, Site, no_site, Reading, Filing}
 use Rattle.meaning.specs.Line.{Tag, S, C, X, D, P, B, R, E, other, rank, is, is_meter, is_kind, most_power, most_index, most_profile, most_daily}
 use Rattle.meaning.specs.Refusals.{Before, is_too_soon, most_readings}
 use Rattle.meaning.specs.File.{is_index_meter}

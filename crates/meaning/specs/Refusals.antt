@@ -1,6 +1,6 @@
 -- The refusals 2 to 12 of a line, the first condition that holds (document 01, Stops that come from the input).
 use Rattle.std.specs.Prelude.{Bool, ◌&&◌, ◌||◌, not, List, [], ◌∷◌, ℕ, ◌+◌, eqb, leb, ltb, length}
-use Rattle.std.proofs.Math.Option.{Option, some}
+use Rattle.std.proofs.Math.Option.{Option}
 use Rattle.lists.specs.Lists.{any, first_of}
 use Rattle.calendar.specs.declared.Years.{Years}
 use Rattle.calendar.specs.Dates.{is_date, is_winter}
@@ -23,7 +23,7 @@ pub record Before : Type 0 where
   pub lines : ℕ
 
 pub data Reason : Type 0 where
-  illegible unknown misplaced malformed outside noDate not_later tooSoon falling tooMany miscounted : Reason
+  illegible unknown misplaced malformed outside no_date not_later too_soon falling too_many miscounted : Reason
 
 unfoldable pub number_of : Reason → ℕ
 number_of illegible = 2
@@ -31,11 +31,11 @@ number_of unknown = 3
 number_of misplaced = 4
 number_of malformed = 5
 number_of outside = 6
-number_of noDate = 7
+number_of no_date = 7
 number_of not_later = 8
-number_of tooSoon = 9
+number_of too_soon = 9
 number_of falling = 10
-number_of tooMany = 11
+number_of too_many = 11
 number_of miscounted = 12
 
 -- 9: filières 6 to 11 are certified from AL 2023 on
@@ -73,17 +73,17 @@ holds unknown b l = is_unknown l
 holds misplaced b l = b.misplaced (tag_of l)
 holds malformed b l = is_malformed l
 holds outside b l = is_outside b.history l
-holds noDate b l = has_no_date l
+holds no_date b l = has_no_date l
 holds not_later b l = b.not_later (tag_of l) (key_of (tag_of l) l)
-holds tooSoon b l = is S (tag_of l) && is_too_soon (site_on l).al (site_on l).filiere
+holds too_soon b l = is S (tag_of l) && is_too_soon (site_on l).al (site_on l).filiere
 holds falling b l = is X (tag_of l) && ltb (number_at l 4) b.last_index
-holds tooMany b l = is X (tag_of l) && leb most_readings b.readings
+holds too_many b l = is X (tag_of l) && leb most_readings b.readings
 holds miscounted b l = is E (tag_of l) && not (eqb (number_at l 1) b.lines)
 
 -- in order of checking
 unfoldable pub order : List Reason
 order =
-    illegible ∷ unknown ∷ misplaced ∷ malformed ∷ outside ∷ noDate ∷ not_later ∷ tooSoon ∷ falling ∷ tooMany ∷ miscounted ∷ []
+    illegible ∷ unknown ∷ misplaced ∷ malformed ∷ outside ∷ no_date ∷ not_later ∷ too_soon ∷ falling ∷ too_many ∷ miscounted ∷ []
 
 unfoldable pub refusal : Before → Line → Option Reason
 refusal b l = first_of (λ y. holds y b l) order

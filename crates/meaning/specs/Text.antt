@@ -2,7 +2,7 @@
 use Rattle.std.specs.Prelude.{List, [], ◌∷◌, ◌++◌, map, ℕ}
 use Rattle.lists.specs.Lists.{flat}
 use Rattle.text.specs.Digits.{digits_of}
-use Rattle.meaning.specs.Cases.{Case, caseM, case1, case2, case3, case4, caseP, case5, case6}
+use Rattle.meaning.specs.Cases.{Case, case_m, case1, case2, case3, case4, case_p, case5, case6}
 use Rattle.meaning.specs.Level.{YearReport, Report}
 use Rattle.meaning.specs.Sheet.{Sheet, refused_sheet, level}
 
@@ -14,12 +14,12 @@ end_byte = 10
 
 -- M 1 2 3 4 P 5 6
 unfoldable pub letter_of_case : Case → ℕ
-letter_of_case caseM = 77
+letter_of_case case_m = 77
 letter_of_case case1 = 49
 letter_of_case case2 = 50
 letter_of_case case3 = 51
 letter_of_case case4 = 52
-letter_of_case caseP = 80
+letter_of_case case_p = 80
 letter_of_case case5 = 53
 letter_of_case case6 = 54
 

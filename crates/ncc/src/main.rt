@@ -1,16 +1,18 @@
 // Writes the sheet of the filing on standard input.
-use file_run::End;
-use libc::{STDERR_FILENO, STDIN_FILENO, STDOUT_FILENO};
+#![tactic(auto)]
 
-fn main() {
-    let r = file_run::run(STDIN_FILENO);
+use file_run::End;
+use std::io;
+
+fn main(rt: HostRuntime) -> io::Result<()> {
+    let r = file_run::run(&mut rt.stdin());
     let end = r.end;
     if let End::Failure = end {
-        io::write_all(STDERR_FILENO, b"ncc: standard input cannot be read\n");
-        return;
+        return eprintln!(rt; "ncc: standard input cannot be read");
     }
     let printed = r.printed;
-    if !file_run::write(STDOUT_FILENO, printed) {
-        io::write_all(STDERR_FILENO, b"ncc: the sheet cannot be written\n");
+    if !file_run::write(&mut rt.stdout(), printed) {
+        return eprintln!(rt; "ncc: the sheet cannot be written");
     }
+    Ok(())
 }

@@ -6,7 +6,7 @@ ghost use Rattle.note.specs.Answers.{peak_day};
 use crate::annex1::{PLACES, STARTS};
 
 // A peak day's winter place, or nothing where the year has no such day.
-#[derive(Drop)]
+#[derive(Clone, Copy)]
 pub enum PeakDay {
     Place(usize),
     Nothing,

@@ -1,7 +1,9 @@
 // Opening, line and close for a caller that keeps its readings in an array of its own.
 //
-// The record's calls are lent the list of readings, a slice of structs, which the prover's own walk does not cover. Each function here takes the
-// array and lends it for one call, and opening and line return it, so that every other caller has plain parameters alone.
+// The record's calls are lent the list of readings. Each function here takes the array and lends it for one call, and opening and line return it,
+// so that every other caller has plain parameters alone.
+#![tactic(auto)]
+
 mod opens; // opening
 mod lines; // a line
 mod closes; // the close
@@ -14,7 +16,7 @@ use readings::Reading;
 use record_calls::CallResult;
 
 // What an opening or a line returns, with the readings.
-#[derive(Drop)]
+#[derive(Clone, Copy)]
 pub struct OwnResult {
     pub call: CallResult,
     pub readings: [Reading; 600],

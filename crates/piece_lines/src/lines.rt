@@ -8,7 +8,7 @@ use crate::next::cursor_at;
 use pieces::{is_final, line_in};
 use record_calls::{CallResult, Record};
 
-// The cursor's line. A function of its own, as the others here: the hand walks that prove their callers take no cursor apart.
+// The cursor's line. A function of its own, as the others here: their callers take no cursor apart.
 pub(crate) fn line_of(cursor: LineCursor, piece: &[u8]) -> &[u8]
     ensures { result.now ≡ part_of piece.now cursor.next.from cursor.next.to }
 {
@@ -16,7 +16,7 @@ pub(crate) fn line_of(cursor: LineCursor, piece: &[u8]) -> &[u8]
     line_in(piece, next.from, next.to)
 }
 
-// Whether the cursor has a line to apply: none after a final answer. A function of its own, for the same reason.
+// Whether the cursor has a line to apply: none after a final answer.
 pub(crate) fn has_line(cursor: LineCursor) -> bool
     ensures { result ≡ has_line cursor }
 {
@@ -28,14 +28,14 @@ pub(crate) fn has_line(cursor: LineCursor) -> bool
     next.whole
 }
 
-// The record that the line is applied to. A function of its own, for the same reason.
+// The record that the line is applied to.
 pub(crate) fn record_of(cursor: LineCursor) -> Record
     ensures { result ≡ cursor.«record» }
 {
     cursor.record
 }
 
-// The next cursor, after the call with the line. A function of its own, for the same reason.
+// The next cursor, after the call with the line.
 pub(crate) fn cursor_after(call: CallResult, cursor: LineCursor, piece: &[u8]) -> LineCursor
     ensures { result ≡ cursor_at call piece.now cursor.next.past }
 {

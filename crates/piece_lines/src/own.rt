@@ -12,7 +12,7 @@ use crate::{LineCursor, OwnCursor};
 use readings::Reading;
 use record_calls::CallResult;
 
-// A function of its own: `apply_lines_own` is proved by a hand walk, and its body is calls alone.
+// The cursor beside the readings. A function of its own: the body of `apply_lines_own` is calls alone.
 fn own_cursor(cursor: LineCursor, readings: [Reading; 600]) -> OwnCursor
     ensures { result ≡ own_cursor_of cursor readings }
 {

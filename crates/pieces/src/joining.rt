@@ -5,7 +5,7 @@ ghost use Rattle.pieces.specs.Joined.{joined_of};
 
 use crate::line_ends::{ROOM, end, is_whole, smaller};
 
-#[derive(Drop)]
+#[derive(Clone, Copy)]
 pub struct Joined {
     pub line: [u8; 321],
     // how many bytes the line has, and how many of the piece it takes, its byte 10 included

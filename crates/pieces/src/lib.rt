@@ -1,5 +1,7 @@
 // Input that comes in pieces, cut anywhere: what a run over it is (specs/Run), what a run promises (specs/Promise), and the functions that find its
 // lines.
+#![tactic(auto)]
+
 mod next_lines; // the next line of a piece
 mod line_ends; // where a line ends, and when it is whole
 mod joining; // the pending line: its bytes, which are held from piece to piece

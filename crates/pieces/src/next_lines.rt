@@ -5,7 +5,7 @@ ghost use Rattle.pieces.specs.LineSpans.{part_of, span_at};
 use crate::line_ends::{ROOM, end, is_whole, smaller};
 
 // A line of a piece: its first byte, its end, and the place after it; whether it has its byte 10 or its 321st byte.
-#[derive(Drop)]
+#[derive(Clone, Copy)]
 pub struct LineSpan {
     pub from: usize,
     pub to: usize,

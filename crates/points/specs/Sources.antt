@@ -1,6 +1,6 @@
 -- Where each point comes from, by the lists of a site (document 01, Cases; Calls and the lines of a file).
 use Rattle.std.specs.Prelude.{Bool, List, ℕ, ◌+◌, get_or}
-use Rattle.meaning.specs.Cases.{Case, caseM, case1, case2, case3, case4, caseP, case5, case6}
+use Rattle.meaning.specs.Cases.{Case, case_m, case1, case2, case3, case4, case_p, case5, case6}
 use Rattle.meaning.specs.Points.{Donor, Source, own, from_default, own_of, rebuilt_by}
 use Rattle.points.specs.declared.own.SiteFactors.{SiteFactors}
 use Rattle.points.specs.OwnPoints.{read_in, profile_in, profiled_on}
@@ -39,11 +39,11 @@ unfoldable pub default_in : SiteFactors → Day → ℕ → ℕ → ℕ → Sour
 default_in b d k w h = from_default b.ps b.theta (profile_in d.slots k w h) (get_or d.cas k 0) b.count b.ca_sum
 
 unfoldable pub source_in : SiteFactors → Day → Case → ℕ → ℕ → ℕ → Source
-source_in b d caseM k w h = own_of (read_in b.al d.near d.far (b.first + k) w h)
+source_in b d case_m k w h = own_of (read_in b.al d.near d.far (b.first + k) w h)
 source_in b d case1 k w h = own (profiled_on d.slots d.energies d.totals k w h)
 source_in b d case2 k w h = rebuilt_by (get_or d.cas k 0) (curve_donors_in b d w h)
 source_in b d case3 k w h = rebuilt_by (get_or d.cas k 0) (index_donors_in b d w h)
 source_in b d case4 k w h = default_in b d k w h
-source_in b d caseP k w h = own (profiled_on d.slots d.energies d.totals k w h)
+source_in b d case_p k w h = own (profiled_on d.slots d.energies d.totals k w h)
 source_in b d case5 k w h = rebuilt_by (get_or d.cas k 0) (index_donors_in b d w h)
 source_in b d case6 k w h = default_in b d k w h

@@ -7,8 +7,8 @@ ghost use Rattle.points.specs.DonorFits.{DonorsFit};
 use crate::own::{PlacePoint, place_point};
 use rounding::Power;
 
-// The sum of the donors' points in power_of and that of their CA, or refusal 18 for a donor's own point.
-#[derive(Drop)]
+// The sum of the donors' points in mW and that of their CA, or refusal 18 for a donor's own point.
+#[derive(Clone, Copy)]
 pub(crate) enum DonorSums {
     Sums { points: u64, ca_sum: u64 },
     Exceed,

@@ -1,6 +1,8 @@
 // The point of a place before its rate, by the case of its year (document 01, Cases): as read, profiled, rebuilt from donors, or by default.
 //
 // Throughout, k is a year's number from the oldest history year, w a winter place and h a half-hour of the day.
+#![tactic(auto)]
+
 mod own; // a year's own points: as read, or profiled from its energy; and the default power
 mod donors; // the sums over donors, and the point rebuilt from them
 mod curve_donors; // the donors of case 2: years with a valid curve
@@ -16,7 +18,7 @@ use history::Case;
 pub use own::{PlacePoint, SiteFactors};
 
 // A history year: its number from the oldest, its case, and its rate in thousandths, 0 for none.
-#[derive(Drop)]
+#[derive(Clone, Copy)]
 pub struct TargetYear {
     pub k: usize,
     pub case: Case,

@@ -9,8 +9,8 @@ ghost use Rattle.points.specs.OwnFits.{is_point, SiteFactorsFit, PlacePointIs, P
 use blocks::{HALF_HOURS, NO_POINT, ROW};
 use rounding::{Energy, Point, Power};
 
-// The point of a place before its rate, in power_of, or refusal 18.
-#[derive(Drop)]
+// The point of a place before its rate, in mW, or refusal 18.
+#[derive(Clone, Copy)]
 pub enum PlacePoint {
     Missing,
     Is(Power),
@@ -18,7 +18,7 @@ pub enum PlacePoint {
 }
 
 // What the default power and the look-ups of a site need: AL, the oldest history year and how many there are, PS, theta and the sum of their CA.
-#[derive(Drop)]
+#[derive(Clone, Copy)]
 pub struct SiteFactors {
     pub al: u64,
     pub first: u64,
@@ -67,7 +67,7 @@ pub(crate) fn profile(slots: &[u16], k: usize, w: usize, h: usize) -> u64
     slots[i] as u64
 }
 
-// A point as read, from W to power_of; a missing one stays missing.
+// A point as read, from W to mW; a missing one stays missing.
 pub(crate) fn measured(code: u32) -> PlacePoint
     requires { T (is_point code) }
     ensures { PlacePointIs (own_of (read_by (point_of_code code))) result }

@@ -2,6 +2,8 @@
 // The result of one line, and whether each number is in its field's range (1).
 //
 // A step returns the progress and, for an X line, the reading: the caller stores it and keeps state and count.
+#![tactic(auto)]
+
 mod plain_step; // a step without a reading
 mod site_ranges; // 1 on what S gave: AL, filière, meter and PS
 mod last_dates; // 1 on the last date or year of each tag
@@ -14,10 +16,10 @@ use line_form::Site;
 pub use plain_step::no_reading;
 use readings::Kind;
 pub use record_ranges::{once_taken, record_fits};
-pub use states::is_open_lem;
+pub use states::is_open;
 
 // A record takes lines from its opening until a refusal by 2 to 18 or a close that reports.
-#[derive(Drop)]
+#[derive(Clone, Copy)]
 pub enum State {
     NeverOpened,
     Open,
@@ -26,7 +28,7 @@ pub enum State {
 }
 
 // What the lines so far gave.
-#[derive(Drop)]
+#[derive(Clone, Copy)]
 pub struct Progress {
     // the rank of the last tag, 0 for none
     pub last: u64,
@@ -37,7 +39,7 @@ pub struct Progress {
     pub tallies: Tallies,
 }
 
-#[derive(Drop)]
+#[derive(Clone, Copy)]
 pub struct Step {
     // 0 if taken, else the refusal's number, 2 to 12, and the progress is unchanged
     pub number: u64,
@@ -50,7 +52,7 @@ pub struct Step {
 }
 
 // The last date of C, X, D, P as 366 times the year and the date place, the last year of B, R; 0 for none.
-#[derive(Drop)]
+#[derive(Clone, Copy)]
 pub struct LastDates {
     pub c: u64,
     pub x: u64,
@@ -61,7 +63,7 @@ pub struct LastDates {
 }
 
 // By year: P dates, breaks (0 no, 1 yes) and rates (0 for none) from the oldest history year, D dates from the first axis year.
-#[derive(Drop)]
+#[derive(Clone, Copy)]
 pub struct Tallies {
     pub profile_dates: [u64; 10],
     pub daily_dates: [u64; 12],

@@ -5,7 +5,7 @@ ghost use Rattle.progress.specs.ProgressViews.{state_view};
 
 use crate::State;
 
-pub fn is_open_lem(state: State) -> bool
+pub fn is_open(state: State) -> bool
     ensures { result ≡ is_open (state_view state) }
 {
     match state {

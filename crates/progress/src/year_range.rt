@@ -6,7 +6,7 @@ pub(crate) use by_year::each_year;
 pub(crate) use last_dates::{date_fits, year_fits};
 
 // The numbers that a record keeps by year.
-#[derive(Drop)]
+#[derive(Clone, Copy)]
 pub(crate) enum TallyKind {
     ProfileDates,
     DailyDates,

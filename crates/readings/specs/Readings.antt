@@ -2,7 +2,7 @@
 use Rattle.std.specs.Prelude.{Bool, cond, List, map, ℕ, length, get_or, replicate}
 use Rattle.lists.specs.Lists.{tab}
 use Rattle.meaning.specs.Filing as meant
-use Rattle.meaning.specs.Filing.{real, corrected, estimated, noKind, reading}
+use Rattle.meaning.specs.Filing.{real, corrected, estimated, no_kind, reading}
 use Rattle.meaning.specs.Blocks.{readings_size, letter_of_kind}
 use Rattle.readings.specs.declared.Kind.{Kind}
 use Rattle.readings.specs.declared.Kind.TheVariants.{R, C, E}
@@ -23,7 +23,7 @@ abbrev pub kind_repr : meant.Kind → Kind
 kind_repr real = R
 kind_repr corrected = C
 kind_repr estimated = E
-kind_repr noKind = E
+kind_repr no_kind = E
 
 -- at position 0, count 0, kind E
 abbrev pub fresh : Reading

@@ -1,4 +1,6 @@
 // A reading: its position on the axis, its count in Wh and its kind; and the lent list of readings.
+#![tactic(auto)]
+
 mod reading_list; // the functions that touch the lent list: one reading stored, all made fresh, all copied into columns
 
 ghost use Rattle.std.specs.Prelude.{◌≡◌};
@@ -9,14 +11,14 @@ ghost use Rattle.readings.specs.Readings.{kind_view, kind_repr, fresh_readings};
 pub use reading_list::{columns_of, put, set_fresh};
 
 // R real, C corrected, E estimated.
-#[derive(Drop)]
+#[derive(Clone, Copy)]
 pub enum Kind {
     R,
     C,
     E,
 }
 
-#[derive(Drop)]
+#[derive(Clone, Copy)]
 pub struct Reading {
     pub position: u32,
     pub count: u64,
@@ -24,7 +26,7 @@ pub struct Reading {
 }
 
 // The fields of 600 readings, a column for each, with the letters of the kinds.
-#[derive(Drop)]
+#[derive(Clone, Copy)]
 pub struct Columns {
     pub positions: [u32; 600],
     pub indexes: [u64; 600],
@@ -41,6 +43,7 @@ pub(crate) fn letter_of(kind: Kind) -> u8
     }
 }
 
+#[tactic(auto, unfolding(meaning::specs::Line::kind_of_letter))]
 pub fn is_kind(letter: u8) -> bool
     ensures { result ≡ is_kind (kind_of_letter letter) }
 {
@@ -54,6 +57,7 @@ pub fn is_kind(letter: u8) -> bool
 }
 
 // The kind of a letter; one that is none of the three counts as E.
+#[tactic(auto, unfolding(meaning::specs::Line::kind_of_letter))]
 pub fn kind_of(letter: u8) -> Kind
     ensures { result ≡ kind_repr (kind_of_letter letter) }
 {
@@ -65,6 +69,7 @@ pub fn kind_of(letter: u8) -> Kind
 }
 
 // 600 fresh readings, as many as a file can have: the list before an opening.
+#[tactic(auto, unfolding(crate::specs::Readings::fresh_readings))]
 pub fn fresh_readings() -> [Reading; 600]
     ensures { result ≡ fresh_readings }
 {

@@ -5,6 +5,8 @@
 //
 // The work of a call is a function of plain parameters. The lent list of readings is touched apart from it: copied before a close, made fresh after
 // an opening, one reading stored after a line.
+#![tactic(auto)]
+
 mod calls; // opening, line and close
 mod whole; // the work of a line and of the close, on a whole record
 mod packing; // what a call hands back
@@ -14,7 +16,7 @@ use answers::Answer;
 use close::YearRow;
 use progress::{Progress, State};
 
-#[derive(Drop)]
+#[derive(Clone, Copy)]
 pub struct Record {
     pub state: State,
     // lines taken so far
@@ -23,14 +25,14 @@ pub struct Record {
     pub progress: Progress,
 }
 
-#[derive(Drop)]
+#[derive(Clone, Copy)]
 pub struct CallResult {
     pub record: Record,
     pub answer: Answer,
 }
 
 // What a close hands back. The years are those of a report, from the oldest on: all 0 past the last, and on a refusal.
-#[derive(Drop)]
+#[derive(Clone, Copy)]
 pub struct CloseResult {
     pub record: Record,
     pub answer: Answer,

@@ -13,7 +13,7 @@ use close::{CloseOutcome, close_blocks};
 use open_and_line::{LineOutcome, apply_line};
 use readings::Columns;
 
-// A line on a whole record. A function of its own: the hand walk that proves `Record::line` takes no record apart.
+// A line on a whole record, which is taken apart here. The readings and the curve come by their lengths.
 pub(crate) fn line_of_record(
     rec: Record,
     line: &[u8],
@@ -33,7 +33,7 @@ pub(crate) fn line_of_record(
     )
 }
 
-// The close on a whole record. A function of its own, as `line_of_record`.
+// The close on a whole record, as `line_of_record`.
 pub(crate) fn close_of_record<'a>(
     rec: Record,
     near: &'a [u32],

@@ -5,19 +5,19 @@ use Rattle.rounding.specs.declared.Power.{Power}
 use Rattle.rounding.specs.declared.Point.{Point}
 use Rattle.rounding.specs.declared.Point.TheVariants.{Is, Exceeds}
 
--- a number of power_of as a power
-abbrev pub power_of : ℕ → Power
-power_of n = record { 0 = n }
+-- a number of mW as a power
+abbrev pub in_mw : ℕ → Power
+in_mw n = record { 0 = n }
 
 unfoldable pub point_where : Bool → ℕ → Point
 point_where true n = Exceeds
-point_where false n = Is (power_of n)
+point_where false n = Is (in_mw n)
 
--- a rounded number of power_of as a point, or that it exceeds the limit
+-- a rounded number of mW as a point, or that it exceeds the limit
 unfoldable pub point_of : ℕ → Point
 point_of n = point_where (exceeds n) n
 
--- in document 01's words: a number of power_of, or the number of a refusal
+-- in document 01's words: a number of mW, or the number of a refusal
 pub data PointAnswer : Type 0 where
   milliwatts : ℕ → PointAnswer
   refusal : ℕ → PointAnswer

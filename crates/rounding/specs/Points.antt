@@ -1,4 +1,4 @@
--- The points of the cases in power_of, the rate and the level in W, each a fraction rounded once (document 01, Cases).
+-- The points of the cases in mW, the rate and the level in W, each a fraction rounded once (document 01, Cases).
 use Rattle.std.specs.Prelude.{Bool, ℕ, ◌*◌, ltb}
 use Rattle.rounding.specs.Rounding.{half_up}
 
@@ -21,7 +21,7 @@ profiled e profile total = over (2000 * e * profile) total
 unfoldable pub rebuilt : ℕ → ℕ → ℕ → Fraction
 rebuilt ca points cas = over (ca * points) cas
 
--- 4, 6: PS × theta × profile × CA × N over the CA of the N history years; theta in 10⁻⁵, profile in 10⁻⁴, power_of
+-- 4, 6: PS × theta × profile × CA × N over the CA of the N history years; theta in 10⁻⁵, profile in 10⁻⁴, mW
 unfoldable pub by_default : ℕ → ℕ → ℕ → ℕ → ℕ → ℕ → Fraction
 by_default ps theta profile ca n cas = over (ps * theta * profile * ca * n) (1000000 * cas)
 
@@ -29,11 +29,11 @@ by_default ps theta profile ca n cas = over (ps * theta * profile * ca * n) (100
 unfoldable pub rated : ℕ → ℕ → Fraction
 rated point rate = over (point * 1000) rate
 
--- the level in W: C, in hundredths, times the mean of the present points, in power_of
+-- the level in W: C, in hundredths, times the mean of the present points, in mW
 unfoldable pub level : ℕ → ℕ → ℕ → Fraction
 level c points n = over (c * points) (100000 * n)
 
--- 18: the largest profiled, rebuilt or default point, in power_of
+-- 18: the largest profiled, rebuilt or default point, in mW
 abbrev pub most_point : ℕ
 most_point = 200000000000
 

@@ -1,7 +1,7 @@
 // From the points to the NCC: the rate of a year, and the level of the mean point.
 ghost use Rattle.std.specs.Prelude.{◌≡◌, ◌≤◌, ◌<◌};
 ghost use Rattle.rounding.specs.Points.{rounded, rated, level};
-ghost use Rattle.rounding.specs.Answers.{power_of};
+ghost use Rattle.rounding.specs.Answers.{in_mw};
 
 use crate::Power;
 use crate::nearest::half_up;
@@ -9,7 +9,7 @@ use crate::nearest::half_up;
 // A point after its year's rate, which is in thousandths.
 pub fn rated(p: Power, rate: u64) -> Power
     requires { (p.0 ≤ 200_000_000_000) × (10 ≤ rate) × (rate ≤ 1000) }
-    ensures { result ≡ power_of (rounded (rated p.0 rate)) }
+    ensures { result ≡ in_mw (rounded (rated p.0 rate)) }
 {
     Power(half_up(p.0 * 1000, rate))
 }

@@ -6,7 +6,7 @@ ghost use Rattle.rounding.specs.Answers.{point_of};
 use crate::nearest::half_up;
 use crate::{Energy, Point, Power};
 
-// A rounded number of power_of as a point, or 18: 200,000,000,000 itself is still a point.
+// A rounded number of mW as a point, or 18: 200,000,000,000 itself is still a point.
 fn limited(mw: u64) -> Point
     ensures { result ≡ point_of mw }
 {

@@ -2,6 +2,8 @@
 //
 // What each function promises is one equation with the run of the definitions (`pieces`, specs/Run). The readings are an array that is taken and
 // returned.
+#![tactic(auto)]
+
 mod first_run; // a run at its start, on a record that is opened
 mod feeding; // a piece: the pending line, and the lines after it
 mod lines; // the lines of a piece when no line is pending
@@ -20,7 +22,7 @@ pub use first_run::begin;
 use readings::Reading;
 use record_calls::{CallResult, Record};
 
-#[derive(Drop)]
+#[derive(Clone, Copy)]
 pub struct Run {
     pub record: Record,
     pub answer: Answer,
@@ -29,7 +31,7 @@ pub struct Run {
     pub held: usize,
 }
 
-#[derive(Drop)]
+#[derive(Clone, Copy)]
 pub struct OwnRun {
     pub run: Run,
     pub readings: [Reading; 600],

@@ -1,4 +1,6 @@
 // The text of a sheet (document 01, The printed sheet): at most 86 bytes of its N line and 46 of each Y line.
+#![tactic(auto)]
+
 mod refusal_line; // the line Z of a refusal
 mod report_lines; // the lines N and Y of a report
 
@@ -12,7 +14,7 @@ use answers::Answer;
 use close::YearRow;
 
 // A sheet's text: the first `length` bytes.
-#[derive(Drop)]
+#[derive(Clone, Copy)]
 pub struct Printed {
     pub bytes: [u8; 546],
     pub length: usize,

@@ -1,37 +1,49 @@
 // Writes the name and the sheet of each filing that its arguments name.
-use file_run::End;
-use libc::STDOUT_FILENO;
+#![tactic(auto)]
 
-fn sheet_of(name: &[u8]) {
-    io::write_all(STDOUT_FILENO, name);
-    io::write_all(STDOUT_FILENO, b"\n");
-    let fd = os::open_read(name);
-    if fd < 0 {
-        os::fail(name);
-        return;
-    }
-    let r = file_run::run(fd);
-    libc::close(fd);
+use file_run::End;
+use std::env::{Env, FillError};
+use std::fs::File;
+use std::{io, str};
+
+// Writes a file's name and its sheet.
+fn sheet_of(rt: &HostRuntime, name: &str) -> io::Result<()> {
+    println!(rt; "{name}")?;
+    let Ok(mut file) = File::open(rt, name) else {
+        return eprintln!(rt; "{name}: cannot be opened");
+    };
+    let r = file_run::run(&mut file);
     let end = r.end;
     if let End::Failure = end {
-        os::fail(name);
-        return;
+        return eprintln!(rt; "{name}: cannot be read");
     }
     let printed = r.printed;
-    file_run::write(STDOUT_FILENO, printed);
-}
-
-fn named(i: usize) {
-    let mut name = io::buffer();
-    let n = os::arg(i, &mut name);
-    sheet_of(&name[..n]);
-}
-
-fn main() {
-    let count = os::arg_count();
-    let mut i = 1;
-    while i < count {
-        named(i);
-        i += 1;
+    if !file_run::write(&mut rt.stdout(), printed) {
+        return eprintln!(rt; "{name}: its sheet cannot be written");
     }
+    Ok(())
+}
+
+// The sheet of the filing that an argument names; false where there is no argument of this number.
+fn named(rt: &HostRuntime, i: usize) -> io::Result<bool> {
+    let mut name = [0u8; 4096];
+    let n = match rt.arg(i, &mut name) {
+        Ok(n) => n,
+        Err(FillError::NotPresent) => return Ok(false),
+        Err(FillError::TooLong) => return Err(io::Error::from(io::ErrorKind::InvalidInput)),
+    };
+    let Ok(text) = str::from_utf8(&name[..n]) else {
+        return Err(io::Error::from(io::ErrorKind::InvalidInput));
+    };
+    sheet_of(rt, text)?;
+    Ok(true)
+}
+
+fn main(rt: HostRuntime) -> io::Result<()> {
+    for i in 1..usize::MAX {
+        if !named(&rt, i)? {
+            break;
+        }
+    }
+    Ok(())
 }

@@ -70,7 +70,7 @@ pub(crate) fn daily_of(forge: Forge) -> [u32; 4393] {
 fn reading(position: u32, count: u64) -> Reading {
     Reading {
         position,
-        count: count,
+        count,
         kind: Kind::E,
     }
 }

@@ -5,6 +5,8 @@
 // this folder are document 01's: 1 where it says so, else the first stop that comes after 1, or none.
 //
 // The list of readings is an array of 600 here: it cannot have another size.
+#![tactic(auto)]
+
 mod records; // the record of a case
 mod held; // its blocks and readings
 mod calls; // what opening, line and close answer
@@ -16,9 +18,10 @@ use crate::cases::{
     last_years, plain_fields, points_held, profiles_held, readings_held, site_fields, sizes,
 };
 use crate::written::opening;
+use std::io;
 
 // The record before it is forged: wind, run of river (history 2011 to 2020), or a record without S.
-#[derive(Drop)]
+#[derive(Clone, Copy)]
 pub(crate) enum Base {
     Wind,
     River,
@@ -30,7 +33,7 @@ pub(crate) enum Base {
 }
 
 // What is forged, and to which value; by year or by place, with the number of the year or the place.
-#[derive(Drop)]
+#[derive(Clone, Copy)]
 pub(crate) enum Forge {
     Nothing,
     Count(u64),
@@ -65,18 +68,22 @@ pub(crate) enum Forge {
     CurveSize(usize),
 }
 
-fn main() {
-    plain_fields();
-    site_fields();
-    fields_before_s();
-    last_winter_dates();
-    last_axis_dates();
-    last_years();
-    dates_by_year();
-    breaks_and_rates();
-    points_held();
-    profiles_held();
-    readings_held();
-    sizes();
-    opening(b"opening on the record out of range", Forge::Count(10_000));
+fn main(rt: HostRuntime) -> io::Result<()> {
+    plain_fields(&rt)?;
+    site_fields(&rt)?;
+    fields_before_s(&rt)?;
+    last_winter_dates(&rt)?;
+    last_axis_dates(&rt)?;
+    last_years(&rt)?;
+    dates_by_year(&rt)?;
+    breaks_and_rates(&rt)?;
+    points_held(&rt)?;
+    profiles_held(&rt)?;
+    readings_held(&rt)?;
+    sizes(&rt)?;
+    opening(
+        &rt,
+        "opening on the record out of range",
+        Forge::Count(10_000),
+    )
 }

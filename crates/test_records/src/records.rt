@@ -32,7 +32,7 @@ fn site(al: u64, filiere: u64, meter: Meter, ps: u64) -> Site {
         al,
         filiere,
         meter,
-        ps: ps,
+        ps,
     }
 }
 
@@ -48,9 +48,9 @@ fn base_site(base: Base) -> Site {
 fn site_of(base: Base, forge: Forge) -> Site {
     let old = base_site(base);
     match forge {
-        Forge::Al(n) => site(n, old.filiere, meter_of(base), old.ps.0),
-        Forge::Filiere(n) => site(old.al, n, meter_of(base), old.ps.0),
-        Forge::Both(al, n) => site(al, n, meter_of(base), old.ps.0),
+        Forge::Al(n) => site(n, old.filiere, meter_of(base), old.ps),
+        Forge::Filiere(n) => site(old.al, n, meter_of(base), old.ps),
+        Forge::Both(al, n) => site(al, n, meter_of(base), old.ps),
         Forge::Ps(n) => site(old.al, old.filiere, meter_of(base), n),
         _ => old,
     }
@@ -159,7 +159,7 @@ pub(crate) fn record_of(base: Base, forge: Forge, last: u64) -> Record {
         last: last_tag_of(base, forge, last),
         site,
         readings: readings_of(forge),
-        last_index: Energy(last_index_of(forge)),
+        last_index: last_index_of(forge),
         lasts,
         tallies,
     };

@@ -3,68 +3,63 @@ use crate::calls::{close_answer, line_answer, open_answer};
 use crate::records::is_before_s;
 use crate::{Base, Forge};
 use answers::Answer;
-use libc::STDOUT_FILENO;
+use std::io;
 
-fn put(text: &[u8]) {
-    io::write_all(STDOUT_FILENO, text);
-}
-
-fn put_answer(answer: Answer) {
-    put(b"\t");
+fn put_answer(rt: &impl Print, answer: Answer) -> io::Result<()> {
     match answer {
-        Answer::Accepted => put(b"accepted"),
-        Answer::Refused { number, count: _ } => {
-            io::print_decimal(STDOUT_FILENO, number);
-        }
+        Answer::Accepted => print!(rt; "\taccepted"),
+        Answer::Refused { number, count: _ } => print!(rt; "\t{number}"),
         Answer::Reported {
             al: _,
             filiere: _,
             level: _,
             points: _,
-        } => put(b"reported"),
+        } => print!(rt; "\treported"),
     }
 }
 
-fn put_line_answer(base: Base, forge: Forge) {
+fn put_line_answer(rt: &impl Print, base: Base, forge: Forge) -> io::Result<()> {
     if is_before_s(base) {
-        put_answer(line_answer(base, forge, b"S\tCF_96E/11\t2025\t2\tT\t5000000"));
-    } else {
-        put_answer(line_answer(base, forge, b"E\t1"));
+        return put_answer(
+            rt,
+            line_answer(base, forge, b"S\tCF_96E/11\t2025\t2\tT\t5000000"),
+        );
     }
+    put_answer(rt, line_answer(base, forge, b"E\t1"))
 }
 
 // What is forged, the line's answer and the close's.
-pub(crate) fn case(name: &[u8], base: Base, forge: Forge) {
-    put(name);
-    put_line_answer(base, forge);
-    put_answer(close_answer(base, forge));
-    put(b"\n");
+pub(crate) fn case(rt: &impl Print, name: &str, base: Base, forge: Forge) -> io::Result<()> {
+    print!(rt; "{name}")?;
+    put_line_answer(rt, base, forge)?;
+    put_answer(rt, close_answer(base, forge))?;
+    println!(rt; "")
 }
 
-pub(crate) fn wind(name: &[u8], forge: Forge) {
-    case(name, Base::Wind, forge);
+pub(crate) fn wind(rt: &impl Print, name: &str, forge: Forge) -> io::Result<()> {
+    case(rt, name, Base::Wind, forge)
 }
 
-pub(crate) fn river(name: &[u8], forge: Forge) {
-    case(name, Base::River, forge);
+pub(crate) fn river(rt: &impl Print, name: &str, forge: Forge) -> io::Result<()> {
+    case(rt, name, Base::River, forge)
 }
 
-pub(crate) fn before_s(name: &[u8], forge: Forge) {
-    case(name, Base::BeforeS, forge);
+pub(crate) fn before_s(rt: &impl Print, name: &str, forge: Forge) -> io::Result<()> {
+    case(rt, name, Base::BeforeS, forge)
 }
 
 // The same with the opening's answer before them.
-pub(crate) fn sized(name: &[u8], forge: Forge) {
-    put(name);
-    put_answer(open_answer(forge));
-    put_line_answer(Base::Wind, forge);
-    put_answer(close_answer(Base::Wind, forge));
-    put(b"\n");
+pub(crate) fn sized(rt: &impl Print, name: &str, forge: Forge) -> io::Result<()> {
+    print!(rt; "{name}")?;
+    put_answer(rt, open_answer(forge))?;
+    put_line_answer(rt, Base::Wind, forge)?;
+    put_answer(rt, close_answer(Base::Wind, forge))?;
+    println!(rt; "")
 }
 
 // The opening's answer alone.
-pub(crate) fn opening(name: &[u8], forge: Forge) {
-    put(name);
-    put_answer(open_answer(forge));
-    put(b"\n");
+pub(crate) fn opening(rt: &impl Print, name: &str, forge: Forge) -> io::Result<()> {
+    print!(rt; "{name}")?;
+    put_answer(rt, open_answer(forge))?;
+    println!(rt; "")
 }

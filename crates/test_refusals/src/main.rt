@@ -1,17 +1,20 @@
 // Runs the cases on standard input through opening and line, and writes each refusal's number and count.
 //
 // A line = ends a case, and a line ~ is passed on with a near block of another size.
-ghost use Rattle.std.specs.Prelude.{◌≤◌, length};
+#![tactic(auto)]
+
+ghost use Rattle.std.specs.Prelude.{◌≤◌, length, IfOk};
 
 use answers::Answer;
 use blocks::NO_POINT;
-use libc::{STDIN_FILENO, STDOUT_FILENO};
 use own_calls::{OwnResult, line_own, open_own};
 use readings::{Reading, fresh_readings};
 use record_calls::Record;
+use std::io;
+use std::io::Read;
 
 // A record with its readings, and what is to be written: nothing (0), a refusal (1) or a case's end (2).
-#[derive(Drop)]
+#[derive(Clone, Copy)]
 struct Stepped {
     record: Record,
     readings: [Reading; 600],
@@ -43,7 +46,7 @@ fn is_sign(line: &[u8], sign: u8) -> bool {
 }
 
 // What is written of an answer, with its number and count.
-#[derive(Drop)]
+#[derive(Clone, Copy)]
 struct Said {
     say: u64,
     number: u64,
@@ -140,28 +143,41 @@ fn step(
     step_of(result, said_of(answer))
 }
 
-fn write_step(say: u64, number: u64, count: u64) {
+fn write_step(rt: &impl Print, say: u64, number: u64, count: u64) -> io::Result<()> {
     if say == 0 {
-        return;
+        return Ok(());
     }
     if say == 1 {
-        io::print_decimal(STDOUT_FILENO, number);
+        print!(rt; "{number}")?;
     } else {
-        io::write_all(STDOUT_FILENO, b"=");
+        print!(rt; "=")?;
     }
-    io::write_all(STDOUT_FILENO, b"\t");
-    io::print_decimal(STDOUT_FILENO, count);
-    io::write_all(STDOUT_FILENO, b"\n");
+    println!(rt; "\t{count}")
 }
 
-fn main() {
+// Reads until `buf` is full or the input ends, and returns how many bytes it put at the start of `buf`.
+fn read_full<R: Read>(input: &mut R, buf: &mut [u8]) -> io::Result<usize>
+    ensures { IfOk result (λ n. n ≤ length buf.new) }
+{
+    let mut done = 0;
+    while done < buf.len() {
+        let n = input.read(&mut buf[done..])?;
+        if n == 0 {
+            break;
+        }
+        done += n;
+    }
+    Ok(done)
+}
+
+fn main(rt: HostRuntime) -> io::Result<()> {
     let mut near = [NO_POINT; 15200];
     let mut far = [NO_POINT; 15200];
     let mut slots = [0u16; 30400];
     let mut daily = [0u32; 4392];
     let mut curve = [0u64; 4400];
-    let mut text = io::large_buffer();
-    let n = io::read_full(STDIN_FILENO, &mut text);
+    let mut text = [0u8; 65536];
+    let n = read_full(&mut rt.stdin(), &mut text)?;
     let mut record = Record::never_opened();
     let mut readings = fresh_readings();
     let mut at = 0;
@@ -171,11 +187,12 @@ fn main() {
         let r = step(
             record, readings, line, &mut near, &mut far, &mut slots, &mut daily, &mut curve,
         );
-        write_step(r.say, r.number, r.count);
+        write_step(&rt, r.say, r.number, r.count)?;
         let next = r.record;
         let result = r.readings;
         record = next;
         readings = result;
         at = e + 1;
     }
+    Ok(())
 }

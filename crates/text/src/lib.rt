@@ -1,4 +1,6 @@
 // Bytes read and written: the fields, numbers and invalid bytes of a line, and text and decimal numbers put into lent bytes.
+#![tactic(auto)]
+
 mod fields; // the first field of a line, what comes after its tab, and the text of the edition
 mod numbers; // a number, read byte by byte
 mod invalid_bytes; // invalid bytes: other than tab and 32 to 126
@@ -17,7 +19,7 @@ pub use written_text::{put_byte, put_text};
 pub(crate) const TAB: u8 = b'\t';
 
 // The first field: how many bytes it has, whether one of them is invalid, whether they are a number, and their number, capped at 10^18.
-#[derive(Drop)]
+#[derive(Clone, Copy)]
 pub struct NumberField {
     pub length: usize,
     pub invalid: bool,

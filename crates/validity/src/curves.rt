@@ -7,7 +7,7 @@ use blocks::{HALF_HOURS, NO_POINT, row};
 use note::PeakDay;
 
 // Points present and points expected in a year.
-#[derive(Drop)]
+#[derive(Clone, Copy)]
 pub(crate) struct Counts {
     pub present: usize,
     pub expected: usize,

@@ -4,7 +4,7 @@ ghost use Rattle.progress.specs.ProgressViews.{state_view};
 ghost use Rattle.answers.specs.Refusals.{open_refusal, ended_refusal};
 
 use line_form::END_TAG;
-use progress::{State, is_open_lem};
+use progress::{State, is_open};
 
 // 1 where something does not fit, else 13 where the record is not open.
 pub(crate) fn open_refusal(fit: bool, state: State) -> u64
@@ -13,13 +13,14 @@ pub(crate) fn open_refusal(fit: bool, state: State) -> u64
     if !fit {
         return 1;
     }
-    if !is_open_lem(state) {
+    if !is_open(state) {
         return 13;
     }
     0
 }
 
 // At a close: 1, else 13, else 14 where E was not taken.
+#[tactic(auto, unfolding(crate::specs::Refusals::open_refusal, crate::specs::Refusals::ended_refusal))]
 pub fn ended_refusal(fit: bool, state: State, last: u64) -> u64
     ensures { result ≡ ended_refusal fit (state_view state) last }
 {

@@ -9,7 +9,7 @@ use line_form::Site;
 use progress::State;
 
 // The answer, the record's state, and the years of a report from the oldest on; all 0 after the last, and for a refusal.
-#[derive(Drop)]
+#[derive(Clone, Copy)]
 pub struct CloseOutcome {
     pub answer: Answer,
     pub state: State,

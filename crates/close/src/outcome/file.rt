@@ -4,7 +4,7 @@ ghost use Rattle.close.specs.FileOutcomes.{refused_by};
 ghost use Rattle.close.specs.Ends.{no_years};
 
 // A history year: its case as printed on the sheet, and its points present. All 0 where the file has no such year.
-#[derive(Drop)]
+#[derive(Clone, Copy)]
 pub struct YearRow {
     pub year: u64,
     pub case: u8,
@@ -12,7 +12,7 @@ pub struct YearRow {
 }
 
 // A refusal's number, all else 0; or number 0 with the level in W, the points counted and the years.
-#[derive(Drop)]
+#[derive(Clone, Copy)]
 pub(crate) struct FileOutcome {
     pub number: u64,
     pub level: u64,

@@ -7,19 +7,19 @@ ghost use Rattle.line_checks.specs.Before.{EachTagged, before_rising};
 ghost use Rattle.line_steps.specs.Answers.{year_checked, rate_checked};
 
 use calendar::{history, is_among};
-use line_checks::{common_checks, first_refusal, is_misplaced, is_not_later, is_within_lem};
+use line_checks::{common_checks, first_refusal, is_misplaced, is_not_later, is_within};
 use line_form::{Fields, Tag};
 use text::and;
 
 // The refusal of a B line, 0 for none, and its year.
-#[derive(Drop)]
+#[derive(Clone, Copy)]
 pub(crate) struct YearChecked {
     pub number: u64,
     pub year: u64,
 }
 
 // The refusal of an R line, 0 for none, its year and its rate.
-#[derive(Drop)]
+#[derive(Clone, Copy)]
 pub(crate) struct RateChecked {
     pub number: u64,
     pub year: u64,
@@ -63,7 +63,7 @@ pub(crate) fn check_rate(
     let misplaced = is_misplaced(last, Tag::R);
     let inside = and(
         is_among(history(al, filiere), r.year),
-        is_within_lem(r.rate, 10, 1000),
+        is_within(r.rate, 10, 1000),
     );
     let mut checks = common_checks(misplaced, r.formed, inside);
     checks.not_later = is_not_later(latest, r.year);

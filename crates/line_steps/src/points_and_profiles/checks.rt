@@ -19,7 +19,7 @@ use line_form::{Fields, Meter, Tag, read_points, read_profiles};
 use text::and;
 
 // The refusal of a C or P line, 0 for none, and its date: the year, the winter place, and the key, which must rise.
-#[derive(Drop)]
+#[derive(Clone, Copy)]
 pub(crate) struct DateChecked {
     pub number: u64,
     pub year: u64,

@@ -8,14 +8,14 @@ ghost use Rattle.line_steps.specs.ReadingAnswers.{reading_refused, reading_check
 
 use calendar::{axis, is_among};
 use line_checks::{
-    common_checks, first_refusal, has_no_date, is_misplaced, is_not_later, key_of, position_at_lem,
+    common_checks, first_refusal, has_no_date, is_misplaced, is_not_later, key_of, position_at,
 };
 use line_form::{Fields, Tag};
 use readings::Kind;
 use text::and;
 
 // The refusal of an X line, 0 for none, and its reading.
-#[derive(Drop)]
+#[derive(Clone, Copy)]
 pub(crate) struct ReadingChecked {
     pub number: u64,
     pub position: usize,
@@ -25,7 +25,7 @@ pub(crate) struct ReadingChecked {
 }
 
 // The refusal of a D line, 0 for none, and its daily sum.
-#[derive(Drop)]
+#[derive(Clone, Copy)]
 pub(crate) struct DailyChecked {
     pub number: u64,
     pub year: u64,
@@ -75,7 +75,7 @@ pub(crate) fn check_reading(
     let kind = r.kind;
     ReadingChecked {
         number,
-        position: position_at_lem(al, filiere, r.year, r.month, r.day),
+        position: position_at(al, filiere, r.year, r.month, r.day),
         index: r.index,
         kind,
         key,
@@ -111,7 +111,7 @@ pub(crate) fn check_daily(
     DailyChecked {
         number,
         year: r.year,
-        position: position_at_lem(al, filiere, r.year, r.month, r.day),
+        position: position_at(al, filiere, r.year, r.month, r.day),
         sum: r.sum,
         key,
     }

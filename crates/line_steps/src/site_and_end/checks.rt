@@ -5,19 +5,19 @@ ghost use Rattle.meaning.specs.Refusals.{refusal};
 ghost use Rattle.line_checks.specs.Before.{EachTagged, before_first, before_end};
 ghost use Rattle.line_steps.specs.Answers.{site_checked, end_checked};
 
-use line_checks::{common_checks, first_refusal, is_misplaced, is_within_lem};
+use line_checks::{common_checks, first_refusal, is_misplaced, is_within};
 use line_form::{Fields, Meter, NO_TAG, Site, Tag, is_too_soon};
 use text::and;
 
 // The refusal of an S line, 0 for none, and its site.
-#[derive(Drop)]
+#[derive(Clone, Copy)]
 pub(crate) struct SiteChecked {
     pub number: u64,
     pub site: Site,
 }
 
 // The refusal of an E line, 0 for none.
-#[derive(Drop)]
+#[derive(Clone, Copy)]
 pub(crate) struct EndChecked {
     pub number: u64,
 }
@@ -28,10 +28,10 @@ pub(crate) fn check_site(fields: Fields, last: u64) -> SiteChecked
     let r = line_form::read_site(fields);
     let site = r.site;
     let numbers = and(
-        is_within_lem(site.filiere, 1, 11),
-        is_within_lem(site.ps, 1, 100_000_000),
+        is_within(site.filiere, 1, 11),
+        is_within(site.ps, 1, 100_000_000),
     );
-    let inside = and(is_within_lem(site.al, 2021, 2026), numbers);
+    let inside = and(is_within(site.al, 2021, 2026), numbers);
     let mut checks = common_checks(last != NO_TAG, r.formed, inside);
     checks.too_soon = is_too_soon(site.al, site.filiere);
     let number = first_refusal(checks);

@@ -2,7 +2,7 @@
 use Rattle.std.specs.Prelude.{Bool, true, false, ◌&&◌, not, cond, List, [], ◌∷◌, ℕ, eqb, ltb}
 use Rattle.std.proofs.Math.Option.{Option, some, none}
 use Rattle.note.specs.Coefficients.{ca_of}
-use Rattle.meaning.specs.Filing.{Filing, Site, site, curveMeter, indexMeter, Reading, reading, real}
+use Rattle.meaning.specs.Filing.{Filing, Site, site, curve_meter, index_meter, Reading, reading, real}
 use Rattle.meaning.specs.Validity.{curve_valid}
 use Rattle.meaning.specs.Cases.{case2}
 use Rattle.meaning.specs.Points.{own, profiled_at, source_by, default_at, rounded_point, with_rate}
@@ -25,11 +25,11 @@ plain s breaks points rs = record {
 
 -- onshore wind, AL 2025: history 2016 to 2020
 unfoldable pub wind : Site
-wind = site 2025 2 curveMeter 5000000
+wind = site 2025 2 curve_meter 5000000
 
 -- solar, AL 2026: history 2017 to 2021
 unfoldable pub solar : Site
-solar = site 2026 1 indexMeter 1000000
+solar = site 2026 1 index_meter 1000000
 
 -- 16 of the 20 half-hours of each day: 176 points on the 11 peak days of 2019, 352 on the 22 of 2017
 unfoldable pub sixteen : Filing
@@ -49,15 +49,15 @@ one_day e = plain solar (λ y. false) (λ y w h. none) (reading 366 0 real ∷ r
 
 -- ---- the table
 pub data ExampleValue : Type 0 where
-  valid notValid missing : ExampleValue
-  power_of : ℕ → ExampleValue
+  valid not_valid missing : ExampleValue
+  in_mw : ℕ → ExampleValue
 
 unfoldable pub validity : Bool → ExampleValue
-validity b = cond b valid notValid
+validity b = cond b valid not_valid
 
 unfoldable pub power : Option ℕ → ExampleValue
 power none = missing
-power (some p) = power_of p
+power (some p) = in_mw p
 
 pub record Row : Type 0 where
   pub got : ExampleValue
@@ -70,16 +70,16 @@ unfoldable pub examples : List Row
 examples =
     -- p1, p2, p3
     row (validity (curve_valid sixteen 2019)) valid
-    ∷ row (validity (curve_valid one_less 2019)) notValid
+    ∷ row (validity (curve_valid one_less 2019)) not_valid
     ∷ row (validity (curve_valid sixteen 2017)) valid
     -- p4, p5: case 2, rebuilt from 2020, on winter places that are peak days of 2017 and 2018
-    ∷ row (power (rounded_point (source_by case2 only2020 2017 2 0))) (power_of 873636364)
-    ∷ row (power (rounded_point (source_by case2 only2020 2018 25 0))) (power_of 887272727)
+    ∷ row (power (rounded_point (source_by case2 only2020 2017 2 0))) (in_mw 873636364)
+    ∷ row (power (rounded_point (source_by case2 only2020 2018 25 0))) (in_mw 887272727)
     -- p6, p7: 1 January 2017 profiled from E 48,000 and E 1
-    ∷ row (power (rounded_point (own (profiled_at (one_day 48000) 2017 0 0)))) (power_of 2000000)
-    ∷ row (power (rounded_point (own (profiled_at (one_day 1) 2017 0 0)))) (power_of 42)
+    ∷ row (power (rounded_point (own (profiled_at (one_day 48000) 2017 0 0)))) (in_mw 2000000)
+    ∷ row (power (rounded_point (own (profiled_at (one_day 1) 2017 0 0)))) (in_mw 42)
     -- p8: default power of 2017
-    ∷ row (power (rounded_point (default_at (one_day 0) 2017 0 0))) (power_of 142259110)
+    ∷ row (power (rounded_point (default_at (one_day 0) 2017 0 0))) (in_mw 142259110)
     -- p9
-    ∷ row (power_of (with_rate (some 500) 880000000)) (power_of 1760000000)
+    ∷ row (in_mw (with_rate (some 500) 880000000)) (in_mw 1760000000)
     ∷ []

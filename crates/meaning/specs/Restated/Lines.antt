@@ -6,7 +6,7 @@ use Rattle.lists.specs.Restated.{CountIs, First, Last}
 use Rattle.calendar.specs.Restated.{EarlierDate}
 use Rattle.text.specs.Fields.{tabs, field_at}
 use Rattle.meaning.specs.Line.{Line, Tag, S, C, X, D, P, B, R, E, other, tag_of, number_at, year_on, month_on, day_on, key_of}
-use Rattle.meaning.specs.Refusals.{Reason, illegible, unknown, misplaced, malformed, outside, noDate, not_later, tooSoon, falling, tooMany, miscounted}
+use Rattle.meaning.specs.Refusals.{Reason, illegible, unknown, misplaced, malformed, outside, no_date, not_later, too_soon, falling, too_many, miscounted}
 use Rattle.meaning.specs.File.{site_in, refusal_at}
 use Rattle.meaning.specs.Restated.Dates.{Winter, Date, HistoryYear, AxisYear}
 
@@ -126,12 +126,12 @@ Words unknown ls l = ¬ HasFields (tag_of l) (tabs l + 1)
 Words misplaced ls l = Misplaced ls (tag_of l)
 Words malformed ls l = Malformed (tag_of l) l
 Words outside ls l = Outside ls (tag_of l) l
-Words noDate ls l = Dated (tag_of l) × ((¬ Date (year_on l) (month_on l) (day_on l)) ⊎ (OnlyWinter (tag_of l) × (¬ Winter (month_on l))))
+Words no_date ls l = Dated (tag_of l) × ((¬ Date (year_on l) (month_on l) (day_on l)) ⊎ (OnlyWinter (tag_of l) × (¬ Winter (month_on l))))
 -- by its key: the order of dates, or the year (dates and years below)
 Words not_later ls l = Rising (tag_of l) × Some (λ k. (tag_of k ≡ tag_of l) × (key_of (tag_of l) l ≤ key_of (tag_of l) k)) ls
-Words tooSoon ls l = (tag_of l ≡ S) × ((6 ≤ number_at l 3) × (number_at l 2 < 2023))
+Words too_soon ls l = (tag_of l ≡ S) × ((6 ≤ number_at l 3) × (number_at l 2 < 2023))
 Words falling ls l = (tag_of l ≡ X) × ((k : Line) × Last (λ m. tag_of m ≡ X) k ls × (number_at l 4 < number_at k 4))
-Words tooMany ls l = (tag_of l ≡ X) × ((n : ℕ) × CountIs (λ k. tag_of k ≡ X) ls n × (600 ≤ n))
+Words too_many ls l = (tag_of l ≡ X) × ((n : ℕ) × CountIs (λ k. tag_of k ≡ X) ls n × (600 ≤ n))
 Words miscounted ls l = (tag_of l ≡ E) × (number_at l 1 ≢ length ls)
 
 -- ---- a line is refused for a reason where its condition holds and none that is checked before it does
@@ -141,12 +141,12 @@ earlier unknown = illegible ∷ []
 earlier misplaced = illegible ∷ unknown ∷ []
 earlier malformed = illegible ∷ unknown ∷ misplaced ∷ []
 earlier outside = illegible ∷ unknown ∷ misplaced ∷ malformed ∷ []
-earlier noDate = illegible ∷ unknown ∷ misplaced ∷ malformed ∷ outside ∷ []
-earlier not_later = illegible ∷ unknown ∷ misplaced ∷ malformed ∷ outside ∷ noDate ∷ []
-earlier tooSoon = illegible ∷ unknown ∷ misplaced ∷ malformed ∷ outside ∷ noDate ∷ not_later ∷ []
-earlier falling = illegible ∷ unknown ∷ misplaced ∷ malformed ∷ outside ∷ noDate ∷ not_later ∷ tooSoon ∷ []
-earlier tooMany = illegible ∷ unknown ∷ misplaced ∷ malformed ∷ outside ∷ noDate ∷ not_later ∷ tooSoon ∷ falling ∷ []
-earlier miscounted = illegible ∷ unknown ∷ misplaced ∷ malformed ∷ outside ∷ noDate ∷ not_later ∷ tooSoon ∷ falling ∷ tooMany ∷ []
+earlier no_date = illegible ∷ unknown ∷ misplaced ∷ malformed ∷ outside ∷ []
+earlier not_later = illegible ∷ unknown ∷ misplaced ∷ malformed ∷ outside ∷ no_date ∷ []
+earlier too_soon = illegible ∷ unknown ∷ misplaced ∷ malformed ∷ outside ∷ no_date ∷ not_later ∷ []
+earlier falling = illegible ∷ unknown ∷ misplaced ∷ malformed ∷ outside ∷ no_date ∷ not_later ∷ too_soon ∷ []
+earlier too_many = illegible ∷ unknown ∷ misplaced ∷ malformed ∷ outside ∷ no_date ∷ not_later ∷ too_soon ∷ falling ∷ []
+earlier miscounted = illegible ∷ unknown ∷ misplaced ∷ malformed ∷ outside ∷ no_date ∷ not_later ∷ too_soon ∷ falling ∷ too_many ∷ []
 
 pub record RefusalWords : Type 0 where
   pub refused : (ls : List Line) (l : Line) (y : Reason) → (refusal_at ls l ≡ some y) ↔ (Words y ls l × Each (λ z. ¬ Words z ls l) (earlier y))

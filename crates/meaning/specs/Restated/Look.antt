@@ -5,7 +5,7 @@ use Rattle.lists.specs.Lists.{keep, Some}
 use Rattle.lists.specs.Restated.{CountIs}
 use Rattle.calendar.specs.Spans.{position_of}
 use Rattle.text.specs.Fields.{field_at}
-use Rattle.meaning.specs.Filing.{curveMeter, indexMeter, real, corrected, estimated, Reading, reading}
+use Rattle.meaning.specs.Filing.{curve_meter, index_meter, real, corrected, estimated, Reading, reading}
 use Rattle.meaning.specs.Line.{Line, Tag, S, C, X, D, P, B, R, E, is, tag_of, number_at, year_on, month_on, day_on, site_on, kind_of, winter_on, place_on}
 use Rattle.meaning.specs.Refusals.{Reason, number_of}
 use Rattle.meaning.specs.File.{site_in, axis_in, refusal_at, point_in, profile_in, daily_in, readings_in, broken_in, rate_in, dates_in, ended_in, filing_in}
@@ -52,8 +52,8 @@ pub record SiteWords (l : Line) : Type 0 where
   pub al : (site_on l).al ≡ number_at l 2
   pub filiere : (site_on l).filiere ≡ number_at l 3
   pub ps : (site_on l).ps ≡ number_at l 5
-  pub curve : ((site_on l).meter ≡ curveMeter) ↔ (field_at l 4 ≡ 84 ∷ [])
-  pub index : ((site_on l).meter ≡ indexMeter) ↔ (field_at l 4 ≡ 73 ∷ [])
+  pub curve : ((site_on l).meter ≡ curve_meter) ↔ (field_at l 4 ≡ 84 ∷ [])
+  pub index : ((site_on l).meter ≡ index_meter) ↔ (field_at l 4 ≡ 73 ∷ [])
 
 -- the kind of a reading, by its letter
 pub record KindWords (f : List ℕ) : Type 0 where

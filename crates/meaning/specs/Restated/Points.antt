@@ -8,7 +8,7 @@ use Rattle.note.specs.Peaks.{peak_days, peak_count}
 use Rattle.note.specs.Coefficients.{theta}
 use Rattle.meaning.specs.Filing.{Filing, Reading, history_of, history_list}
 use Rattle.meaning.specs.Validity.{energy_of, total_of}
-use Rattle.meaning.specs.Cases.{caseM, case4, case6, case_of}
+use Rattle.meaning.specs.Cases.{case_m, case4, case6, case_of}
 use Rattle.meaning.specs.Points.{as_read, by_profile, Donor, from_donors, from_default, source_at, rounded_origin, rounded_point, position_at, profiled_at, curve_donors, index_donors, with_rate, place_of, all_places, point_at}
 use Rattle.meaning.specs.Level.{present_in, counted, missing_entry, entry_of, curve_of}
 use Rattle.meaning.specs.Closing.{closing_refusal}
@@ -50,8 +50,8 @@ ByDefault F y w h n oldest later =
 pub record SourceWords : Type 1 where
   -- a measured year keeps its points, but for its rate
   pub measured :
-      (F : Filing) (y w h v : ℕ) → case_of F y ≡ caseM → F.point y w h ≡ some v → point_at (place_of F y w h) ≡ some (with_rate (F.rate y) (1000 * v))
-  pub stays_missing : (F : Filing) (y w h : ℕ) → case_of F y ≡ caseM → F.point y w h ≡ none → point_at (place_of F y w h) ≡ none
+      (F : Filing) (y w h v : ℕ) → case_of F y ≡ case_m → F.point y w h ≡ some v → point_at (place_of F y w h) ≡ some (with_rate (F.rate y) (1000 * v))
+  pub stays_missing : (F : Filing) (y w h : ℕ) → case_of F y ≡ case_m → F.point y w h ≡ none → point_at (place_of F y w h) ≡ none
   -- one donor with the target's CA gives its own point
   pub same_ca : (d : Donor) → 0 < d.ca → rounded_point (from_donors d.ca (d ∷ [])) ≡ some (rounded_origin d.origin)
   -- a profiled point: of the first two neighbouring readings with the day between them

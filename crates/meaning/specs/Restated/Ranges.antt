@@ -1,7 +1,7 @@
 -- The ranges of 1, in words: the record's fields, and at the close what the blocks hold (document 01, Stops that come from the input; Calls).
 use Rattle.std.specs.Prelude.{◌≡◌, ◌≢◌, ◌↔◌, ◌⊎◌, List, ℕ, ◌+◌, ◌-◌, ◌*◌, ◌≤◌, ◌<◌, T, length, get_or}
 use Rattle.calendar.specs.Places.{date_place, winter_place}
-use Rattle.meaning.specs.Filing.{noMeter, curveMeter, indexMeter, Reading, real, corrected, estimated}
+use Rattle.meaning.specs.Filing.{no_meter, curve_meter, index_meter, Reading, real, corrected, estimated}
 use Rattle.meaning.specs.Blocks.{Blocks, sizes_fit, fresh_reading}
 use Rattle.meaning.specs.Record.{Rec, rec_fits, contents_fit}
 use Rattle.meaning.specs.Restated.Dates.{Leap, Date, Winter, HistoryYear, AxisYear}
@@ -47,7 +47,7 @@ ByYear Is Fits ns =
 
 -- at most so many in a leap year, and so many in any other
 abbrev pub UpTo : ℕ → ℕ → ℕ → ℕ → Type 0
-UpTo inLeap else y n = (Leap y × (n ≤ inLeap)) ⊎ ((¬ Leap y) × (n ≤ else))
+UpTo in_leap otherwise y n = (Leap y × (n ≤ in_leap)) ⊎ ((¬ Leap y) × (n ≤ otherwise))
 
 -- ---- the record
 pub record RecordFits (s : Rec) : Type 0 where
@@ -57,7 +57,7 @@ pub record RecordFits (s : Rec) : Type 0 where
   pub al : ((¬ Taken s) × (s.site.al ≡ 0)) ⊎ Within 2021 2026 s.site.al
   pub filiere : ((¬ Taken s) × (s.site.filiere ≡ 0)) ⊎ Within 1 11 s.site.filiere
   pub ps : ((¬ Taken s) × (s.site.ps ≡ 0)) ⊎ Within 1 100000000 s.site.ps
-  pub meter : (Taken s × ((s.site.meter ≡ curveMeter) ⊎ (s.site.meter ≡ indexMeter))) ⊎ ((¬ Taken s) × (s.site.meter ≡ noMeter))
+  pub meter : (Taken s × ((s.site.meter ≡ curve_meter) ⊎ (s.site.meter ≡ index_meter))) ⊎ ((¬ Taken s) × (s.site.meter ≡ no_meter))
   -- 9
   pub soon : ¬ ((6 ≤ s.site.filiere) × (s.site.al < 2023))
   pub readings : s.readings ≤ 600

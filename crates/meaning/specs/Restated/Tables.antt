@@ -2,14 +2,14 @@
 use Rattle.std.specs.Prelude.{◌≡◌, ◌≢◌, ◌↔◌, [], ◌∷◌, map, ℕ, ◌+◌, length}
 use Rattle.text.specs.Fields.{field_at}
 use Rattle.meaning.specs.Line.{Line, Tag, S, C, X, D, P, B, R, E, other, tag_of, size, forms_of}
-use Rattle.meaning.specs.Refusals.{illegible, unknown, misplaced, malformed, outside, noDate, not_later, tooSoon, falling, tooMany, miscounted, number_of}
-use Rattle.meaning.specs.Closing.{noEnd, partial, noData, zeroTotal, tooHigh, close_number}
+use Rattle.meaning.specs.Refusals.{illegible, unknown, misplaced, malformed, outside, no_date, not_later, too_soon, falling, too_many, miscounted, number_of}
+use Rattle.meaning.specs.Closing.{no_end, partial, no_data, zero_total, too_high, close_number}
 
 pub record NumberWords : Type 0 where
   pub line :
-      map number_of (illegible ∷ unknown ∷ misplaced ∷ malformed ∷ outside ∷ noDate ∷ not_later ∷ tooSoon ∷ falling ∷ tooMany ∷ miscounted ∷ [])
+      map number_of (illegible ∷ unknown ∷ misplaced ∷ malformed ∷ outside ∷ no_date ∷ not_later ∷ too_soon ∷ falling ∷ too_many ∷ miscounted ∷ [])
       ≡ 2 ∷ 3 ∷ 4 ∷ 5 ∷ 6 ∷ 7 ∷ 8 ∷ 9 ∷ 10 ∷ 11 ∷ 12 ∷ []
-  pub close : map close_number (noEnd ∷ partial ∷ noData ∷ zeroTotal ∷ tooHigh ∷ []) ≡ 14 ∷ 15 ∷ 16 ∷ 17 ∷ 18 ∷ []
+  pub close : map close_number (no_end ∷ partial ∷ no_data ∷ zero_total ∷ too_high ∷ []) ≡ 14 ∷ 15 ∷ 16 ∷ 17 ∷ 18 ∷ []
   -- fields, the tag included
   pub fields : map size (S ∷ C ∷ X ∷ D ∷ P ∷ B ∷ R ∷ E ∷ []) ≡ 6 ∷ 24 ∷ 6 ∷ 5 ∷ 24 ∷ 2 ∷ 3 ∷ 2 ∷ []
   pub forms : (t : Tag) → t ≢ other → size t ≡ length (forms_of t) + 1

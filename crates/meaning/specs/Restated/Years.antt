@@ -6,9 +6,9 @@ use Rattle.lists.specs.Restated.{CountIs, Adjacent}
 use Rattle.calendar.specs.Places.{month_of, day_of}
 use Rattle.calendar.specs.Spans.{place_at}
 use Rattle.note.specs.Peaks.{peak_days, peak_count}
-use Rattle.meaning.specs.Filing.{Filing, curveMeter, Kind, real, corrected, Reading, year_of}
+use Rattle.meaning.specs.Filing.{Filing, curve_meter, Kind, real, corrected, Reading, year_of}
 use Rattle.meaning.specs.Validity.{present_points, curve_valid, index_valid}
-use Rattle.meaning.specs.Cases.{caseM, case1, case2, case3, case4, caseP, case5, case6, case_of}
+use Rattle.meaning.specs.Cases.{case_m, case1, case2, case3, case4, case_p, case5, case6, case_of}
 use Rattle.meaning.specs.Restated.Dates.{Winter, Date, HistoryYear}
 
 -- ---- curve years
@@ -64,10 +64,10 @@ abbrev pub SomeYear : Filing → (ℕ → Type 0) → Type 0
 SomeYear F P = (z : ℕ) × OfHistory F z × P z
 
 abbrev pub CurveFile : Filing → Type 0
-CurveFile F = F.site.meter ≡ curveMeter
+CurveFile F = F.site.meter ≡ curve_meter
 
 pub record CaseWords (F : Filing) (y : ℕ) : Type 0 where
-  pub m : (case_of F y ≡ caseM) ↔ (CurveFile F × CurveValid F y)
+  pub m : (case_of F y ≡ case_m) ↔ (CurveFile F × CurveValid F y)
   pub one : (case_of F y ≡ case1) ↔ (CurveFile F × ((¬ CurveValid F y) × IndexValid F y))
   pub two : (case_of F y ≡ case2) ↔ (CurveFile F × ((¬ CurveValid F y) × ((¬ IndexValid F y) × SomeYear F (CurveValid F))))
   pub three :
@@ -76,6 +76,6 @@ pub record CaseWords (F : Filing) (y : ℕ) : Type 0 where
   pub four :
       (case_of F y ≡ case4)
       ↔ (CurveFile F × ((¬ CurveValid F y) × ((¬ IndexValid F y) × ((¬ SomeYear F (CurveValid F)) × (¬ SomeYear F (IndexValid F))))))
-  pub p : (case_of F y ≡ caseP) ↔ ((¬ CurveFile F) × IndexValid F y)
+  pub p : (case_of F y ≡ case_p) ↔ ((¬ CurveFile F) × IndexValid F y)
   pub five : (case_of F y ≡ case5) ↔ ((¬ CurveFile F) × ((¬ IndexValid F y) × SomeYear F (IndexValid F)))
   pub six : (case_of F y ≡ case6) ↔ ((¬ CurveFile F) × ((¬ IndexValid F y) × (¬ SomeYear F (IndexValid F))))

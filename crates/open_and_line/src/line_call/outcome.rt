@@ -9,7 +9,7 @@ use answers::{Answer, answer_of};
 use progress::{Progress, State, Step};
 use readings::{Kind, Reading};
 
-#[derive(Drop)]
+#[derive(Clone, Copy)]
 pub struct LineOutcome {
     // the reading, and its place in the lent list
     pub reading_place: usize,
