@@ -6,25 +6,25 @@ pub mod Positions
 pub mod Answers
 pub mod Examples
 -- months: their lengths and where they begin
-pub use Months.{no-month, longest-31, before-past, month-over}
+pub use Months.{no_month, longest_31, before_past, month_over}
 -- leap years, dates and days, and the places of days
-pub use Days.{leap-words, date-words, DayParts, day-parts, DayHasPlace, day-place, PlaceHasDay, place-day, days-in-longest, date-day, date-at-place}
+pub use Days.{leap_words, date_words, DayParts, day_parts, DayHasPlace, day_place, PlaceHasDay, place_day, days_in_longest, date_day, date_at_place}
 -- the places at which a year has a date, and how many they are
-pub use Days.{has-date-rule, has-date-leap, has-date-other, no-date-past, dates-in-year}
+pub use Days.{has_date_rule, has_date_leap, has_date_other, no_date_past, dates_in_year}
 -- an earlier day has a lower place
-pub use Days.{earlier-place}
+pub use Days.{earlier_place}
 -- the same of winter
-pub use Winter.{winter-words, WinterDayHasPlace, winter-day-place, WinterPlaceHasDay, winter-place-day}
-pub use Winter.{has-winter-date-rule, has-winter-date-leap, has-winter-date-other, no-winter-date-past, winter-dates-in-year}
-pub use Winter.{winter-parts, winter-rises, winter-same, earlier-winter-place}
+pub use Winter.{winter_words, WinterDayHasPlace, winter_day_place, WinterPlaceHasDay, winter_place_day}
+pub use Winter.{has_winter_date_rule, has_winter_date_leap, has_winter_date_other, no_winter_date_past, winter_dates_in_year}
+pub use Winter.{winter_parts, winter_rises, winter_same, earlier_winter_place}
 -- history and axis years
-pub use Positions.{among-words, among-by-count, axis-among, length-5-10, Known, known-parts, has-history, no-history, known-history}
-pub use Positions.{HistoryBounds, history-bounds, history-short, history-year, known-axis, no-axis, AxisBounds, axis-bounds, AxisRange, axis-range}
+pub use Positions.{among_words, among_by_count, axis_among, length_5_10, Known, known_parts, has_history, no_history, known_history}
+pub use Positions.{HistoryBounds, history_bounds, history_short, history_year_lem, known_axis, no_axis, AxisBounds, axis_bounds, AxisRange, axis_range}
 -- positions on the axis
-pub use Positions.{PositionParts, position-parts, position-back, year-among, earlier-position}
+pub use Positions.{PositionParts, position_parts, position_back, year_among, earlier_position}
 -- what an answer says
-pub use Answers.{date-place-at, date-place-nowhere, winter-place-at, winter-place-nowhere, winter-date-at, winter-date-nowhere}
-pub use Answers.{day-of, day-nowhere, winter-day-of, winter-day-nowhere}
-pub use Answers.{position_at, position-nowhere, DateOn, date-on, date-nowhere, place-below}
+pub use Answers.{date_place_at, date_place_nowhere, winter_place_at, winter_place_nowhere, winter_date_at, winter_date_nowhere}
+pub use Answers.{day_of_lem, day_nowhere, winter_day_of, winter_day_nowhere}
+pub use Answers.{position_at_lem, position_nowhere, DateOn, date_on, date_nowhere, place_below}
 -- worked examples
-pub use Examples.{leap-years, month-days, date-places, winter-places, wind-2025, river-2021, position-2007}
+pub use Examples.{leap_years, month_days, date_places, winter_places, wind_2025, river_2021, position_2007}

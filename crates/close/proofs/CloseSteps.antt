@@ -10,8 +10,7 @@ use Rattle.lists.proofs.Laws.{length_tab}
 use Rattle.calendar.specs.declared.Years.{Years}
 use Rattle.calendar.specs.Spans.{history_years}
 use Rattle.meaning.specs.Filing.{Site, Filing}
-use Rattle.meaning.specs.Level.{counted}
-use Rattle.meaning.specs.Closing.{tooHigh, close_holds}
+use Rattle.meaning.specs.Closing.{too_high, close_holds}
 use Rattle.meaning.specs.Blocks.{Blocks}
 use Rattle.meaning.specs.Record.{Tallies, filing_held}
 use Rattle.demands.proofs.Bound.Counted.{some_point}
@@ -97,21 +96,21 @@ module _ {t : Site} {n : ℕ} {k : Tallies} {w : Blocks} {ps xs ks : List ℕ} (
         unfolding valid_years site_factors_of
         filled_is = rw (found.cases, found.valid, found.history, found.energies, found.totals) at filled
 
-        too_high : close_holds tooHigh F ≡ f.exceeds
-        too_high =
+        too_high_lem : close_holds too_high F ≡ f.exceeds
+        too_high_lem =
             sym (ap (λ (x : CurveTotals). x.exceeds) filled_is.is ∙ exceeds_is t n k true w energies totals cs is cases (means fit))
 
         -- 18
         pub exceeds : {r : FileOutcome} {left : List ℕ} → r ≡ refused_by 18 → left ≡ cond f.exceeds c after → f.exceeds ≡ true → file_out r left ≡ file_out_of F c
-        exceeds e l q = ap₂ file_out e (l ∙ ap (λ (b : Bool). cond b c after) q) ∙ exceeded fit c number stop_is zero (too_high ∙ q)
+        exceeds e l q = ap₂ file_out e (l ∙ ap (λ (b : Bool). cond b c after) q) ∙ exceeded fit c number stop_is zero (too_high_lem ∙ q)
 
         pub whole : length after ≡ 4400
         unfolding curve_in
         whole = ap length filled_is.curve ∙ length_tab 4400 0 _
 
         module _ (low : f.exceeds ≡ false) where
-          fine : T (not (close_holds tooHigh F))
-          fine = rw (too_high, low) tt
+          fine : T (not (close_holds too_high F))
+          fine = rw (too_high_lem, low) tt
 
           pub some_counted : 0 < f.counted
           some_counted =
@@ -124,7 +123,7 @@ module _ {t : Site} {n : ℕ} {k : Tallies} {w : Blocks} {ps xs ks : List ℕ} (
           pub reported : {r : FileOutcome} {left : List ℕ} → r ≡ reported_by t.al t.filiere h x f → left ≡ cond f.exceeds c after → file_out r left ≡ file_out_of F c
           reported e l =
               ap₂ file_out (e ∙ same ∙ reported_is fit fine) (l ∙ ap (λ (b : Bool). cond b c after) low ∙ filled_is.curve ∙ curve_is t n k true w energies totals cs is cases (means fit) fine)
-              ∙ reports fit c number stop_is zero (too_high ∙ low)
+              ∙ reports fit c number stop_is zero (too_high_lem ∙ low)
             where
               same : reported_by t.al t.filiere h x f
                   ≡ reported_by t.al t.filiere y cases (curve_totals_of (site_factors_of t.al t.filiere t.ps) (file_data w.near w.far w.slots energies totals cs is (cas_from y.first t.filiere)) cases k.rates)

@@ -9,7 +9,7 @@ use Rattle.lists.specs.Lists.{first_of}
 use Rattle.calendar.specs.Spans.{history_years}
 use Rattle.meaning.specs.Filing.{Site, Filing}
 use Rattle.meaning.specs.Level.{report_of, curve_of}
-use Rattle.meaning.specs.Closing.{CloseReason, noEnd, partial, noData, zeroTotal, tooHigh, close_number, close_holds, close_order, closing_refusal}
+use Rattle.meaning.specs.Closing.{CloseReason, no_end, partial, no_data, zero_total, too_high, close_number, close_holds, close_order, closing_refusal}
 use Rattle.meaning.specs.Blocks.{Blocks}
 use Rattle.meaning.specs.Record.{Tallies, history_of_site, filing_held}
 use Rattle.validity.specs.Days.{totals_of}
@@ -23,7 +23,7 @@ use Rattle.close.proofs.FileFacts.{rise, indexes_valid, default_is}
 
 -- ---- from whether 15, 16, 17 and 18 hold
 abbrev refusal_by : Bool → Bool → Bool → Bool → Option CloseReason
-refusal_by p l z x = cond p (some partial) (cond l (some noData) (cond z (some zeroTotal) (cond x (some tooHigh) none)))
+refusal_by p l z x = cond p (some partial) (cond l (some no_data) (cond z (some zero_total) (cond x (some too_high) none)))
 
 module _ (F : Filing) (c : List ℕ) where
   by_stop : (p l z x : Bool) → (first_number p l z ≡ 0 → ⊥) → file_out (refused_by (first_number p l z)) c ≡ file_out_by (refusal_by p l z x) F c
@@ -33,7 +33,7 @@ module _ (F : Filing) (c : List ℕ) where
   by_stop false false true x h = refl
   by_stop false false false x h = absurd (h refl)
 
-  no_stop : (p l z x : Bool) → first_number p l z ≡ 0 → refusal_by p l z x ≡ cond x (some tooHigh) none
+  no_stop : (p l z x : Bool) → first_number p l z ≡ 0 → refusal_by p l z x ≡ cond x (some too_high) none
   unfolding first_number
   no_stop true l z x h = absurd (omega (arith, h))
   no_stop false true z x h = absurd (omega (arith, h))
@@ -45,11 +45,11 @@ module _ {t : Site} {n : ℕ} {k : Tallies} {w : Blocks} {ps xs ks : List ℕ} (
   F' = filing_held t n k true w
 
   -- E was taken
-  refusal_is : closing_refusal F' ≡ refusal_by (close_holds partial F') (close_holds noData F') (close_holds zeroTotal F') (close_holds tooHigh F')
+  refusal_is : closing_refusal F' ≡ refusal_by (close_holds partial F') (close_holds no_data F') (close_holds zero_total F') (close_holds too_high F')
   unfolding closing_refusal first_of close_order
-  refusal_is = ap (λ (b : Bool). cond b (some noEnd) (refusal_by (close_holds partial F') (close_holds noData F') (close_holds zeroTotal F') (close_holds tooHigh F'))) ended
+  refusal_is = ap (λ (b : Bool). cond b (some no_end) (refusal_by (close_holds partial F') (close_holds no_data F') (close_holds zero_total F') (close_holds too_high F'))) ended
     where
-      ended : close_holds noEnd F' ≡ false
+      ended : close_holds no_end F' ≡ false
       ended = unfold close_holds filing_held in refl
 
   abbrev curves : List Bool
@@ -64,7 +64,7 @@ module _ {t : Site} {n : ℕ} {k : Tallies} {w : Blocks} {ps xs ks : List ℕ} (
   abbrev stop : ℕ
   stop = data_refusal (history_years t.al t.filiere) k.profile_dates k.daily_dates indexes defaults ps n (totals_of ps w.daily n)
 
-  stop_is : stop ≡ first_number (close_holds partial F') (close_holds noData F') (close_holds zeroTotal F')
+  stop_is : stop ≡ first_number (close_holds partial F') (close_holds no_data F') (close_holds zero_total F')
   unfolding data_refusal history_of_site
   stop_is =
       rw (
@@ -79,20 +79,20 @@ module _ {t : Site} {n : ℕ} {k : Tallies} {w : Blocks} {ps xs ks : List ℕ} (
   stopped m e h =
       let q = e ∙ stop_is in
       ap (λ (x : ℕ). file_out (refused_by x) c) q
-      ∙ by_stop F' c (close_holds partial F') (close_holds noData F') (close_holds zeroTotal F') (close_holds tooHigh F') (λ z. h (q ∙ z))
+      ∙ by_stop F' c (close_holds partial F') (close_holds no_data F') (close_holds zero_total F') (close_holds too_high F') (λ z. h (q ∙ z))
       ∙ ap (λ (o : Option CloseReason). file_out_by o F' c) (sym refusal_is)
 
-  passed : (m : ℕ) → m ≡ stop → m ≡ 0 → (x : Bool) → close_holds tooHigh F' ≡ x → closing_refusal F' ≡ cond x (some tooHigh) none
+  passed : (m : ℕ) → m ≡ stop → m ≡ 0 → (x : Bool) → close_holds too_high F' ≡ x → closing_refusal F' ≡ cond x (some too_high) none
   passed m e z x h =
-      refusal_is ∙ no_stop F' c (close_holds partial F') (close_holds noData F') (close_holds zeroTotal F') (close_holds tooHigh F') (sym stop_is ∙ sym e ∙ z)
-      ∙ ap (λ (b : Bool). cond b (some tooHigh) none) h
+      refusal_is ∙ no_stop F' c (close_holds partial F') (close_holds no_data F') (close_holds zero_total F') (close_holds too_high F') (sym stop_is ∙ sym e ∙ z)
+      ∙ ap (λ (b : Bool). cond b (some too_high) none) h
 
   -- refused by 18
-  pub exceeded : (m : ℕ) → m ≡ stop → m ≡ 0 → close_holds tooHigh F' ≡ true → file_out (refused_by 18) c ≡ file_out_of F' c
+  pub exceeded : (m : ℕ) → m ≡ stop → m ≡ 0 → close_holds too_high F' ≡ true → file_out (refused_by 18) c ≡ file_out_of F' c
   unfolding file_out_of file_out_by close_number
   exceeded m e z h = ap (λ (o : Option CloseReason). file_out_by o F' c) (sym (passed m e z true h))
 
   -- reported
-  pub reports : (m : ℕ) → m ≡ stop → m ≡ 0 → close_holds tooHigh F' ≡ false → file_out (report_repr (report_of F')) (curve_of F') ≡ file_out_of F' c
+  pub reports : (m : ℕ) → m ≡ stop → m ≡ 0 → close_holds too_high F' ≡ false → file_out (report_repr (report_of F')) (curve_of F') ≡ file_out_of F' c
   unfolding file_out_of file_out_by
   reports m e z h = ap (λ (o : Option CloseReason). file_out_by o F' c) (sym (passed m e z false h))

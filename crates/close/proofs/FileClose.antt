@@ -15,7 +15,7 @@ use Rattle.meaning.specs.Filing.{Site, Filing}
 use Rattle.meaning.specs.Refusals.{is_too_soon, most_readings}
 use Rattle.meaning.specs.Line.{most_index}
 use Rattle.meaning.specs.Level.{report_of, curve_of}
-use Rattle.meaning.specs.Closing.{CloseReason, noEnd, partial, noData, zeroTotal, tooHigh, close_number, close_holds, close_order, closing_refusal}
+use Rattle.meaning.specs.Closing.{CloseReason, no_end, partial, no_data, zero_total, too_high, close_number, close_holds, close_order, closing_refusal}
 use Rattle.meaning.specs.Blocks.{Blocks, sizes_fit}
 use Rattle.meaning.specs.Record.{refused_state, closed_state, is_open, Rec, in_state, is_taken, site_of_rec, history_of_site, history_of_rec, axis_of_rec, site_fits, last_dates_fit, rec_fits, points_fit, slots_fit, daily_fits, contents_fit, filing_held, filing_of}
 use Rattle.meaning.specs.Calls.{refused, reported, out, with_curve, close_by, close_of}
@@ -92,30 +92,30 @@ unfolding close_by closing_refusal first_of close_order close_holds filing_of fi
 close_unended s w n = rw (ne_eqb s.last 8 n)
 
 -- ---- the numbers of a refusal: 15 to 18 where E was taken
-number_range : (k : CloseReason) → (k ≡ noEnd → ⊥) → (15 ≤ close_number k) × (close_number k ≤ 18)
+number_range : (k : CloseReason) → (k ≡ no_end → ⊥) → (15 ≤ close_number k) × (close_number k ≤ 18)
 unfolding close_number
-number_range noEnd n = absurd (n refl)
+number_range no_end n = absurd (n refl)
 number_range partial n = (omega arith, omega arith)
-number_range noData n = (omega arith, omega arith)
-number_range zeroTotal n = (omega arith, omega arith)
-number_range tooHigh n = (omega arith, omega arith)
+number_range no_data n = (omega arith, omega arith)
+number_range zero_total n = (omega arith, omega arith)
+number_range too_high n = (omega arith, omega arith)
 
 is_unended : Option CloseReason → Bool
-is_unended (some noEnd) = true
+is_unended (some no_end) = true
 is_unended (some partial) = false
-is_unended (some noData) = false
-is_unended (some zeroTotal) = false
-is_unended (some tooHigh) = false
+is_unended (some no_data) = false
+is_unended (some zero_total) = false
+is_unended (some too_high) = false
 is_unended none = false
 
 not_unended : (F : Filing) → F.ended ≡ true → is_unended (closing_refusal F) ≡ false
 unfolding closing_refusal first_of close_order is_unended
-not_unended F e = go (close_holds noEnd F) (close_holds partial F) (close_holds noData F) (close_holds zeroTotal F) (close_holds tooHigh F) ended
+not_unended F e = go (close_holds no_end F) (close_holds partial F) (close_holds no_data F) (close_holds zero_total F) (close_holds too_high F) ended
   where
-    ended : close_holds noEnd F ≡ false
+    ended : close_holds no_end F ≡ false
     ended = unfold close_holds in (rw e)
 
-    go : (u p l z x : Bool) → u ≡ false → is_unended (cond u (some noEnd) (cond p (some partial) (cond l (some noData) (cond z (some zeroTotal) (cond x (some tooHigh) none))))) ≡ false
+    go : (u p l z x : Bool) → u ≡ false → is_unended (cond u (some no_end) (cond p (some partial) (cond l (some no_data) (cond z (some zero_total) (cond x (some too_high) none))))) ≡ false
     go true p l z x h = absurd (subst T h tt)
     go false true l z x h = refl
     go false false true z x h = refl
@@ -154,7 +154,7 @@ module _ (s : Rec) (w : Blocks) (fits : (sizes_fit w && (rec_fits s && contents_
   unfolding filing_of filing_held
   is_ended = eq-eqb s.last 8 e
 
-  low : (k : CloseReason) → closing_refusal F ≡ some k → k ≡ noEnd → ⊥
+  low : (k : CloseReason) → closing_refusal F ≡ some k → k ≡ no_end → ⊥
   unfolding is_unended
   low k q z = let d : is_unended (closing_refusal F) ≡ true = ap is_unended (q ∙ ap some z) in subst T (sym d ∙ not_unended F is_ended) tt
 

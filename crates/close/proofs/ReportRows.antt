@@ -18,7 +18,7 @@ use Rattle.meaning.specs.Filing.{Site, Filing, history_of, years_in, history_lis
 use Rattle.meaning.specs.Level.{year_report, report_of}
 use Rattle.meaning.specs.Cases.{Case as DocumentCase}
 use Rattle.meaning.specs.Text.{letter_of_case}
-use Rattle.meaning.specs.Closing.{tooHigh, close_holds}
+use Rattle.meaning.specs.Closing.{too_high, close_holds}
 use Rattle.meaning.specs.Blocks.{Blocks}
 use Rattle.meaning.specs.Record.{Tallies, filing_held}
 use Rattle.validity.specs.Days.{energies_of, totals_of}
@@ -94,7 +94,7 @@ module _ {t : Site} {n : ℕ} {k : Tallies} {w : Blocks} {ps xs ks : List ℕ} (
   abbrev found : CurveTotals
   found = curve_totals_of (site_factors_of t.al t.filiere t.ps) (file_data w.near w.far w.slots es ts cs is (cas_from h.first t.filiere)) cases k.rates
 
-  module _ (fine : T (not (close_holds tooHigh F))) where
+  module _ (fine : T (not (close_holds too_high F))) where
     row_is : (j : ℕ) → j < h.count → row_in (h.first + j) (get_or cases j M) (get_or found.present j 0) ≡ year_repr (year_report F (h.first + j))
     unfolding row_in year_repr year_report
     row_is j l =

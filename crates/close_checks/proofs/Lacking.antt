@@ -17,7 +17,7 @@ use Rattle.meaning.specs.Filing.{Site, Filing, axis_of, history_list, years_in}
 use Rattle.meaning.specs.Validity.{Interval, intervals, overlaps_winter, touches, total_of, index_valid}
 use Rattle.meaning.specs.Cases.{case_of, is_default}
 use Rattle.calendar.specs.Dates.{all_winter_dates, all_dates}
-use Rattle.meaning.specs.Closing.{partial, noData, zeroTotal, close_holds, is_partial, some_winter_interval, lacks_profile, lacks_daily}
+use Rattle.meaning.specs.Closing.{partial, no_data, zero_total, close_holds, is_partial, some_winter_interval, lacks_profile, lacks_daily}
 use Rattle.meaning.specs.Blocks.{Blocks, readings_of}
 use Rattle.meaning.specs.Record.{Tallies, history_of_site, readings_fit, filing_held}
 use Rattle.readings.specs.Columns.{Columned}
@@ -106,7 +106,7 @@ module _ (t : Site) (n : ℕ) (k : Tallies) (e : Bool) (w : Blocks) where
         ∙ sym (get_d_tab0 4392 (total_at ps w.daily n) (interval_start ps i) 0 (rise.below i (omega arith))
         ∙ ap (of_interval (total_in ps w.daily)) (around_here ps n rise i (interval_start ps i) h (omega arith) (rise.rises i h))))
 
-    pub zero_held : close_holds zeroTotal (filing_held t n k e w) ≡ some_winter (history_of_site t).count valid ps n (totals_zero ps (totals_of ps w.daily n))
+    pub zero_held : close_holds zero_total (filing_held t n k e w) ≡ some_winter (history_of_site t).count valid ps n (totals_zero ps (totals_of ps w.daily n))
     unfolding close_holds
     zero_held = some_held (λ v. eqb (total_of (filing_held t n k e w) v) 0) (totals_zero ps (totals_of ps w.daily n)) zero_at
 
@@ -165,7 +165,7 @@ module _ (t : Site) (n : ℕ) (k : Tallies) (e : Bool) (w : Blocks) where
 
     pub lacking_held : (default : List Bool)
         → ((j : ℕ) → j < (history_of_site t).count → get_or default j false ≡ is_default (case_of (filing_held t n k e w) ((history_of_site t).first + j)))
-        → close_holds noData (filing_held t n k e w)
+        → close_holds no_data (filing_held t n k e w)
         ≡ (lacks_profiles (history_of_site t).count valid default k.profile_dates || some_winter (history_of_site t).count valid ps n (misses_days ps k.daily_dates))
     unfolding close_holds
     lacking_held default d = ap₂ (λ (x y : Bool). x || y) (profiles_held valid default valid_is d) daily_held_lem

@@ -3,7 +3,7 @@ use mathlib.Core.Path.{◌≡◌, refl, ap, sym, subst, ◌∙◌}
 use mathlib.Core.Bool.{Bool, true, false, ◌&&◌, not, cond}
 use mathlib.Core.List.{List, [], ◌∷◌, ◌++◌, map}
 use mathlib.Core.Option.{Option}
-use Prim.Native.Nat.{ℕ, zero, suc, ◌+◌, ◌-◌, ◌*◌, ◌/◌, ◌%◌, ◌≤◌, ◌<◌}
+use Prim.Native.Nat.{ℕ, zero, suc, ◌+◌, ◌*◌, ◌/◌, ◌%◌, ◌≤◌, ◌<◌}
 use native.Mathlib.Omega.{arith}
 use lib.Dec.{T, eqb, ltb}
 use lib.ListN.{length, get_or, length-map, get_or-append}
@@ -20,13 +20,13 @@ use Rattle.note.proofs.PeakDays.{days_length}
 use Rattle.meaning.specs.Filing.{Site, Filing, history_of}
 use Rattle.meaning.specs.Points.{CurvePlace, place_of, source_exceeds, point_at, year_places, all_places}
 use Rattle.meaning.specs.Level.{missing_entry, entry_of, points_in, present_in, counted, coefficient_of, ncc, curve_entry, curve_of}
-use Rattle.meaning.specs.Closing.{tooHigh, close_holds}
+use Rattle.meaning.specs.Closing.{too_high, close_holds}
 use Rattle.meaning.specs.Blocks.{Blocks}
 use Rattle.meaning.specs.Record.{Tallies, filing_held}
 use Rattle.points.specs.declared.own.SiteFactors.{SiteFactors}
 use Rattle.history.specs.declared.cases.Case.{Case}
 use Rattle.history.specs.Years.{cas_from}
-use Rattle.curve.specs.PlaceSums.{place_sum, point_in, exceeds_in, place_sum_of, entry_in}
+use Rattle.curve.specs.PlaceSums.{point_in, exceeds_in, place_sum_of, entry_in}
 use Rattle.curve.specs.YearPlaces.{FileData, file_data}
 use Rattle.curve.specs.Places.{places_of, all_places_in, site_factors_of, present_years, curve_totals_of, curve_entry_in, curve_in, ncc_of}
 use Rattle.curve.proofs.PlaceSums.{any_join, map_join}
@@ -108,11 +108,11 @@ module _ (t : Site) (n : ℕ) (r : Tallies) (e : Bool) (b : Blocks) (energies to
   all_places_lem = all_is t n r e b energies totals curves indexes cases m
 
   -- 18
-  pub exceeds_is : (curve_totals_of B L cases r.rates).exceeds ≡ close_holds tooHigh F
+  pub exceeds_is : (curve_totals_of B L cases r.rates).exceeds ≡ close_holds too_high F
   unfolding curve_totals_of place_sum_of exceeds_in close_holds
   exceeds_is = ap (any (λ (q : CurvePlace). source_exceeds q.source)) all_places_lem
 
-  module _ (fine : T (not (close_holds tooHigh F))) where
+  module _ (fine : T (not (close_holds too_high F))) where
     all_quiet : T (not (any exceeds_in (all_places F)))
     unfolding close_holds exceeds_in
     all_quiet = fine

@@ -21,7 +21,7 @@ use Rattle.note.specs.Coefficients.{ca_of}
 use Rattle.note.proofs.PeakDays.{each_winter}
 use Rattle.meaning.specs.Filing.{Site, Filing, history_of, years_in, history_list}
 use Rattle.meaning.specs.Validity.{curve_valid, index_valid}
-use Rattle.meaning.specs.Cases.{Case as DocumentCase, caseM, case1, case2, case3, case4, caseP, case5, case6, case_of}
+use Rattle.meaning.specs.Cases.{Case as DocumentCase, case_m, case1, case2, case3, case4, case_p, case5, case6, case_of}
 use Rattle.meaning.specs.Points.{Origin, by_profile, Donor, own, place_of, interval_at, profiled_in, profiled_at, read_by, read_at, donor_of, curve_donor, index_donor, curve_donors, index_donors, own_of, history_cas, default_at, source_by, source_at, applied_rate, year_places, all_places}
 use Rattle.meaning.specs.Blocks.{Blocks, slots_start}
 use Rattle.meaning.specs.Record.{Tallies, history_of_site, profile_held, by_year, rate_of_code, filing_held}
@@ -178,12 +178,12 @@ module _ (t : Site) (n : ℕ) (r : Tallies) (e : Bool) (b : Blocks) (energies to
   -- ---- the source of each point
   source_by_lem : (x : DocumentCase) (k w h : ℕ) → k < years → w < 152 → h < 20 → source_in B (D w) x k w h ≡ source_by x F (first + k) w h
   unfolding source_in source_by site_factors_of day_in
-  source_by_lem caseM k w h i j l = ap own_of (code_is k w h i j l)
+  source_by_lem case_m k w h i j l = ap own_of (code_is k w h i j l)
   source_by_lem case1 k w h i j l = ap own (profiled_is k w h i j l)
   source_by_lem case2 k w h i j l = rw (ca_is k i, curve_donors_lem w h j l)
   source_by_lem case3 k w h i j l = rw (ca_is k i, index_donors_lem w h j l)
   source_by_lem case4 k w h i j l = default_is k w h i j l
-  source_by_lem caseP k w h i j l = ap own (profiled_is k w h i j l)
+  source_by_lem case_p k w h i j l = ap own (profiled_is k w h i j l)
   source_by_lem case5 k w h i j l = rw (ca_is k i, index_donors_lem w h j l)
   source_by_lem case6 k w h i j l = default_is k w h i j l
 

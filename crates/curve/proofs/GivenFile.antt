@@ -13,7 +13,7 @@ use Rattle.calendar.specs.Spans.{is_known, history_years, axis_years}
 use Rattle.calendar.proofs.Laws.{known_axis, history_bounds, history_short}
 use Rattle.meaning.specs.Filing.{Filing, history_of, axis_of, years_in, history_list}
 use Rattle.meaning.specs.Validity.{curve_valid, index_valid}
-use Rattle.meaning.specs.Cases.{Case, caseM, case1, case2, case3, case4, caseP, case5, case6, Mark, case_by, mark_of, marks_of, case_of}
+use Rattle.meaning.specs.Cases.{Case, case_m, case1, case2, case3, case4, case_p, case5, case6, Mark, case_by, mark_of, marks_of, case_of}
 use Rattle.meaning.specs.Points.{position_at}
 use Rattle.meaning.specs.Blocks.{missing_point, row_size, is_near, near_start, far_start}
 use Rattle.blocks.specs.Rows.{holds_year, part, row_of}
@@ -58,12 +58,12 @@ points_fit_lem al near far h g y i = go (holds_year al y) (is_near al y)
 
 -- ---- cases
 told_meant : (x : Case) → case_view (case_repr x) ≡ x
-told_meant caseM = refl
+told_meant case_m = refl
 told_meant case1 = refl
 told_meant case2 = refl
 told_meant case3 = refl
 told_meant case4 = refl
-told_meant caseP = refl
+told_meant case_p = refl
 told_meant case5 = refl
 told_meant case6 = refl
 

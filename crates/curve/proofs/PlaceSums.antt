@@ -3,16 +3,16 @@ use mathlib.Core.Path.{◌≡◌, refl, ap, sym, ◌∙◌}
 use mathlib.Core.Bool.{Bool, true, false, ◌||◌, cond}
 use mathlib.Core.List.{List, [], ◌∷◌, ◌++◌, map}
 use mathlib.Core.Option.{Option, some, none}
-use Prim.Native.Nat.{ℕ, zero, suc, ◌+◌, ◌-◌, ◌≤◌}
+use Prim.Native.Nat.{ℕ, suc, ◌+◌, ◌≤◌}
 use native.Mathlib.Nat.{add-zero, zero-add, add_assoc, add-suc, suc-add}
 use native.Mathlib.Omega.{arith}
 use lib.Dec.{eqb}
-use lib.ListN.{length, set, length-append}
+use lib.ListN.{length, set, length-append, length-map}
 use lib.Seq.{sets}
 use Rattle.lists.specs.Lists.{any, present, sum}
 use Rattle.lists.proofs.Tests.{or_false, or_assoc}
 use Rattle.lists.proofs.Blocks.{sum_append}
-use Rattle.rounding.specs.Points.{rated, most_point}
+use Rattle.rounding.specs.Points.{most_point}
 use Rattle.rounding.proofs.Formulas.{rated_most}
 use Rattle.meaning.specs.Points.{Source, CurvePlace, rounded_point, source_exceeds, point_at, rated_by, with_rate}
 use Rattle.meaning.specs.Level.{entry_of}
@@ -79,7 +79,7 @@ sets_join l i (x ∷ xs) ys =
 
 entries_length : (xs : List CurvePlace) → length (entries_of xs) ≡ length xs
 unfolding entries_of
-entries_length xs = lib.ListN.length_map xs entry_in
+entries_length xs = length-map xs entry_in
 
 pub curve_on : (l : List ℕ) (i j : ℕ) (xs ys : List CurvePlace) {x : List ℕ} → j ≡ i + length xs → sets l i (entries_of (xs ++ ys)) ≡ x → sets (sets l i (entries_of xs)) j (entries_of ys) ≡ x
 curve_on l i j xs ys h e =

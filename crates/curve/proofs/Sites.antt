@@ -2,11 +2,11 @@
 use mathlib.Core.Path.{◌≡◌, refl}
 use mathlib.Core.Bool.{Bool, true, false}
 use mathlib.Core.List.{List}
-use mathlib.Core.Logic.{◌⊎◌, ⊎_elim}
-use Prim.Native.Nat.{ℕ, zero, suc, ◌+◌, ◌-◌, ◌*◌, ◌≤◌, ◌<◌}
+use mathlib.Core.Logic.{⊎_elim}
+use Prim.Native.Nat.{ℕ, zero, suc, ◌+◌, ◌*◌, ◌≤◌, ◌<◌}
 use native.Mathlib.Omega.{arith}
 use lib.Dec.{ltb}
-use lib.ListN.{length, get_or, get_or-eq_default}
+use lib.ListN.{get_or, get_or-eq_default}
 use borrow.Author.Tests.{ltb-true, ltb-false}
 use Rattle.points.specs.OwnFits.{SiteFactorsFit}
 use Rattle.points.specs.DonorFits.{CasFit}
@@ -15,7 +15,7 @@ use Rattle.lists.proofs.Laws.{length_tab, get_d_tab0}
 use Rattle.calendar.specs.declared.Years.{Years}
 use Rattle.calendar.specs.Spans.{history_years}
 use Rattle.calendar.proofs.Laws.{among_words, history_bounds, history_short, history_year_lem}
-use Rattle.note.specs.Coefficients.{ca_of, theta}
+use Rattle.note.specs.Coefficients.{ca_of}
 use Rattle.note.proofs.Factors.{theta_most}
 use Rattle.note.proofs.History.{ca_not_zero, ca_at_most}
 use Rattle.history.specs.Years.{cas_from, cas_sum}
@@ -74,6 +74,7 @@ module _ (al f ps : ℕ) (s : SiteFits al f ps) where
 
   sum_some : (n : ℕ) → 0 < n → n ≤ span.count → 0 < cas_sum n (cas_from span.first f)
   unfolding cas_sum tab sum
+  sum_some zero h g = elim h [ ]
   sum_some (suc n) h g = omega (arith, cas_some 0 (omega arith))
 
   pub basis_fits : SiteFactorsFit (site_factors_of al f ps)

@@ -7,8 +7,8 @@ use mathlib.Core.Option.{Option, some, none}
 use Prim.Native.Nat.{◌≤◌}
 use native.Mathlib.Omega.{arith}
 use Rattle.meaning.specs.Line.{Line}
-use Rattle.meaning.specs.Refusals.{Reason, illegible, unknown, misplaced, malformed, outside, noDate, not_later, tooSoon, falling, tooMany, miscounted, number_of, refusal}
-use Rattle.meaning.specs.Closing.{CloseReason, noEnd, partial, noData, zeroTotal, tooHigh, close_number, closing_refusal}
+use Rattle.meaning.specs.Refusals.{Reason, illegible, unknown, misplaced, malformed, outside, no_date, not_later, too_soon, falling, too_many, miscounted, number_of, refusal}
+use Rattle.meaning.specs.Closing.{CloseReason, no_end, partial, no_data, zero_total, too_high, close_number, closing_refusal}
 use Rattle.meaning.specs.Blocks.{Blocks, sizes_fit, fresh_blocks}
 use Rattle.meaning.specs.Record.{is_open, Rec, fresh_rec, rec_fits, contents_fit, before_of, filing_of}
 use Rattle.meaning.specs.Calls.{Answer, accepted, refused, reported, Out, out, leaves, opening_of, line_by, line_of, close_by, close_of}
@@ -27,20 +27,20 @@ line_number unknown = omega arith
 line_number misplaced = omega arith
 line_number malformed = omega arith
 line_number outside = omega arith
-line_number noDate = omega arith
+line_number no_date = omega arith
 line_number not_later = omega arith
-line_number tooSoon = omega arith
+line_number too_soon = omega arith
 line_number falling = omega arith
-line_number tooMany = omega arith
+line_number too_many = omega arith
 line_number miscounted = omega arith
 
 close_number_lem : (k : CloseReason) → (13 ≤ close_number k) × (close_number k ≤ 18)
 unfolding close_number
-close_number_lem noEnd = omega arith
+close_number_lem no_end = omega arith
 close_number_lem partial = omega arith
-close_number_lem noData = omega arith
-close_number_lem zeroTotal = omega arith
-close_number_lem tooHigh = omega arith
+close_number_lem no_data = omega arith
+close_number_lem zero_total = omega arith
+close_number_lem too_high = omega arith
 
 -- ---- each call
 opening_answers : (s : Rec) (w : Blocks) → Answers opening w (opening_of s w) (opening_of s w).answer

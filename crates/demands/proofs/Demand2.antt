@@ -1,10 +1,8 @@
 -- Demand 2: whatever record and blocks held, a run's sheet and curve are those of the lines.
 use mathlib.Core.Path.{◌≡◌, refl, ap}
-use mathlib.Core.Bool.{true, false}
 use mathlib.Core.List.{List, [], ◌∷◌, ◌++◌}
 use mathlib.Core.Option.{Option, some, none}
 use Prim.Native.Nat.{ℕ, ◌+◌}
-use lib.Dec.{T}
 use lib.ListN.{length}
 use Rattle.lists.proofs.Tests.{is_true}
 use Rattle.meaning.specs.Filing.{Filing}
@@ -16,7 +14,7 @@ use Rattle.meaning.specs.Closing.{CloseReason, close_number, closing_refusal}
 use Rattle.meaning.specs.Blocks.{Blocks, sizes_fit, fresh_blocks}
 use Rattle.meaning.specs.Record.{Rec, fresh_rec}
 use Rattle.meaning.proofs.States.{is_open_lem}
-use Rattle.meaning.specs.Calls.{Answer, accepted, Out, opening_of, line_by, line_of, close_by, close_of}
+use Rattle.meaning.specs.Calls.{accepted, opening_of, line_by, line_of, close_by, close_of}
 use Rattle.meaning.specs.Sheet.{refused_sheet, level, refused_at, closing_by, closing_of, outcome_by, outcome_from, outcome_of}
 use Rattle.demands.specs.CallLists.{called, sheet_of_answer, outcome_of_out, onward_by, onward, run_from, run}
 use Rattle.demands.specs.Demands.{Demand-2}

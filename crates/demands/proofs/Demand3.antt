@@ -4,7 +4,7 @@ use mathlib.Core.Logic.{◌≢◌}
 use mathlib.Core.Bool.{Bool, true, false, ◌&&◌, cond}
 use mathlib.Core.List.{List, [], ◌∷◌}
 use mathlib.Core.Option.{Option, some, none}
-use Prim.Native.Nat.{ℕ, ◌+◌}
+use Prim.Native.Nat.{ℕ}
 use native.Mathlib.Omega.{arith}
 use Rattle.lists.specs.Lists.{Each, each_nil, each_cons}
 use Rattle.meaning.specs.Line.{Line}
@@ -14,9 +14,9 @@ use Rattle.meaning.specs.Closing.{CloseReason, closing_refusal}
 use Rattle.meaning.specs.Blocks.{Blocks, sizes_fit, fresh_blocks}
 use Rattle.meaning.specs.Record.{open_state, refused_state, closed_state, is_open, Rec, fresh_rec, in_state, rec_fits, contents_fit, filing_of}
 use Rattle.meaning.proofs.States.{not_open, open_only}
-use Rattle.meaning.specs.Calls.{Answer, accepted, refused, Out, out, leaves, opening_of, line_by, line_of, close_by, close_of}
+use Rattle.meaning.specs.Calls.{accepted, refused, Out, out, leaves, opening_of, line_by, line_of, close_by, close_of}
 use Rattle.demands.specs.CallLists.{Call, opening, line, close, called, file_after, Answered, answers_from, answers_of}
-use Rattle.demands.specs.Demands.{Bounded, BoundedIfReported, Demand-3}
+use Rattle.demands.specs.Demands.{BoundedIfReported, Demand-3}
 use Rattle.demands.proofs.Bound.Theorem.{bounded_report}
 use Rattle.demands.proofs.Held.Rec.{rec_step}
 use Rattle.demands.proofs.Held.Blocks.{blocks_step, blocks_is}

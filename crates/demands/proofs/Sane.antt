@@ -13,11 +13,11 @@ use Rattle.lists.proofs.Tests.{is_true, not_not}
 use Rattle.calendar.specs.declared.Years.{Years}
 use Rattle.calendar.specs.Spans.{among, is_known}
 use Rattle.calendar.proofs.Laws.{among_words, history_short}
-use Rattle.note.proofs.History.{known, ca_not_zero, ca_twofold}
+use Rattle.note.proofs.History.{ca_not_zero, ca_twofold}
 use Rattle.meaning.specs.Filing.{Filing, history_of}
 use Rattle.meaning.specs.Line.{Line}
 use Rattle.meaning.specs.File.{site_in, history_in, ended_in, filing_in}
-use Rattle.meaning.specs.Closing.{CloseReason, noEnd, partial, noData, zeroTotal, tooHigh, close_holds, close_order, closing_refusal}
+use Rattle.meaning.specs.Closing.{CloseReason, no_end, partial, no_data, zero_total, too_high, close_holds, close_order, closing_refusal}
 use Rattle.meaning.specs.Blocks.{Blocks}
 use Rattle.meaning.specs.Record.{Rec, is_taken, history_of_rec, is_within, by_year, rate_of_code, filing_held, filing_of}
 use Rattle.meaning.proofs.Accepted.{between}
@@ -32,7 +32,7 @@ pub ended : (F : Filing) → closing_refusal F ≡ none → T F.ended
 unfolding closing_refusal close_order close_holds
 ended F e = go (first_none (λ k. close_holds k F) close_order e)
   where
-    go : Each (λ (k : CloseReason). T (not (close_holds k F))) (noEnd ∷ partial ∷ noData ∷ zeroTotal ∷ tooHigh ∷ []) → T F.ended
+    go : Each (λ (k : CloseReason). T (not (close_holds k F))) (no_end ∷ partial ∷ no_data ∷ zero_total ∷ too_high ∷ []) → T F.ended
     go (each_cons a r) = not_not F.ended a
 
 taken : (ls : List Line) (s : Rec) → HeldRec ls s → T (ended_in ls) → T (is_taken s)

@@ -7,7 +7,7 @@ use lib.Dec.{ltb}
 use Rattle.lists.specs.Lists.{any}
 use Rattle.lists.proofs.Ranges.{any_tab}
 use Rattle.lists.proofs.Tables.{tab_same}
-use Rattle.meaning.specs.Filing.{Meter, noMeter, curveMeter, indexMeter}
+use Rattle.meaning.specs.Filing.{Meter, no_meter, curve_meter, index_meter}
 use Rattle.meaning.specs.Cases.{Mark, case_by}
 use Rattle.history.specs.declared.cases.Case.{Case}
 use Rattle.history.specs.declared.cases.Case.TheVariants.{M}
@@ -26,13 +26,13 @@ some_index_lem n curves indexes = any_tab (λ (k : Mark). k.index) n 0 (mark_in 
 case_in_lem : (m : Meter) (n : ℕ) (curves indexes : List Bool) (k : ℕ)
     → case_with (is_curve m) (some_valid n curves) (some_valid n indexes) (mark_in curves indexes k) ≡ case_in m n curves indexes k
 unfolding case_with case_in case_by
-case_in_lem noMeter n curves indexes k = rw (some_index_lem n curves indexes)
-case_in_lem curveMeter n curves indexes k = rw (some_curve_lem n curves indexes, some_index_lem n curves indexes)
-case_in_lem indexMeter n curves indexes k = rw (some_index_lem n curves indexes)
+case_in_lem no_meter n curves indexes k = rw (some_index_lem n curves indexes)
+case_in_lem curve_meter n curves indexes k = rw (some_curve_lem n curves indexes, some_index_lem n curves indexes)
+case_in_lem index_meter n curves indexes k = rw (some_index_lem n curves indexes)
 
 -- the cases of all years, likewise
-pub cases_found : (m : Meter) (n : ℕ) (curves indexes : List Bool) (curveMeter some_curve some_index : Bool) → curveMeter ≡ is_curve m → some_curve ≡ some_valid n curves → some_index ≡ some_valid n indexes
-    → by_history n M (λ k. case_with curveMeter some_curve some_index (mark_in curves indexes k)) ≡ cases_of m n curves indexes
+pub cases_found : (m : Meter) (n : ℕ) (curves indexes : List Bool) (curve_meter some_curve some_index : Bool) → curve_meter ≡ is_curve m → some_curve ≡ some_valid n curves → some_index ≡ some_valid n indexes
+    → by_history n M (λ k. case_with curve_meter some_curve some_index (mark_in curves indexes k)) ≡ cases_of m n curves indexes
 unfolding by_history cases_of
 cases_found m n curves indexes u c i p q r =
     rw (p, q, r)

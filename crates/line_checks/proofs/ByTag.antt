@@ -6,7 +6,7 @@ use Prim.Native.Nat.{ℕ}
 use lib.Dec.{eqb, leb}
 use Rattle.calendar.specs.declared.Years.{Years}
 use Rattle.calendar.specs.Spans.{years, among, history_years}
-use Rattle.meaning.specs.Filing.{noMeter}
+use Rattle.meaning.specs.Filing.{no_meter}
 use Rattle.meaning.specs.Line.{Line, Tag, S, B, R, E, number_at, year_on, site_on, key_of, most_power}
 use Rattle.meaning.specs.Refusals.{Before, outside, holds, refusal, is_too_soon}
 use Rattle.meaning.specs.Record.{is_within}
@@ -170,7 +170,7 @@ module _ (l : Line) (last : ℕ) (k : Known S l) where
       let u = k.tag in
       let s = (site_read_of l).site in
       record {
-        misplaced_is = rw u (barred_first last noMeter);
+        misplaced_is = rw u (barred_first last no_meter);
         malformed_is = malformed_s l u;
         outside_is = outside_s h l u ∙ sym (not_three (is_within 2021 2026 s.al) (is_within 1 11 s.filiere) (is_within 1 most_power s.ps));
         date_is = λ _. needs_no_date b l S u refl;

@@ -9,9 +9,9 @@ use lib.Dec.{eqb, ltb, eqb-suc-zero, eqb→eq}
 use borrow.Author.Tests.{eq-eqb}
 use Rattle.lists.specs.Lists.{first_of}
 use Rattle.lists.proofs.Tests.{same, is_false}
-use Rattle.meaning.specs.Filing.{Meter, noMeter}
+use Rattle.meaning.specs.Filing.{Meter, no_meter}
 use Rattle.meaning.specs.Line.{Line, Tag, S, C, X, E, is, tag_of, has_date_on}
-use Rattle.meaning.specs.Refusals.{Before, Reason, illegible, unknown, misplaced, malformed, outside, noDate, not_later, tooSoon, falling, tooMany, miscounted, number_of, has_no_date, holds, order, refusal}
+use Rattle.meaning.specs.Refusals.{Before, Reason, illegible, unknown, misplaced, malformed, outside, no_date, not_later, too_soon, falling, too_many, miscounted, number_of, has_no_date, holds, order, refusal}
 use Rattle.meaning.specs.File.{is_index_meter}
 use Rattle.meaning.specs.Record.{misplaced_by}
 use Rattle.meaning.proofs.Passed.{passed}
@@ -32,11 +32,11 @@ first_is c =
       by_cond c.misplaced misplaced,
       by_cond c.malformed malformed,
       by_cond c.outside outside,
-      by_cond c.no_date noDate,
+      by_cond c.no_date no_date,
       by_cond c.not_later not_later,
-      by_cond c.too_soon tooSoon,
+      by_cond c.too_soon too_soon,
       by_cond c.falling falling,
-      by_cond c.too_many tooMany,
+      by_cond c.too_many too_many,
       by_cond c.miscounted miscounted,
     )
 
@@ -54,11 +54,11 @@ pub record Asks (b : Before) (l : Line) (c : Checks) : Type 0 where
   pub misplaced_is : holds misplaced b l ≡ c.misplaced
   pub malformed_is : holds malformed b l ≡ c.malformed
   pub outside_is : holds outside b l ≡ c.outside
-  pub date_is : holds outside b l ≡ false → holds noDate b l ≡ c.no_date
-  pub later_is : holds outside b l ≡ false → holds noDate b l ≡ false → holds not_later b l ≡ c.not_later
-  pub soon_is : holds outside b l ≡ false → holds tooSoon b l ≡ c.too_soon
+  pub date_is : holds outside b l ≡ false → holds no_date b l ≡ c.no_date
+  pub later_is : holds outside b l ≡ false → holds no_date b l ≡ false → holds not_later b l ≡ c.not_later
+  pub soon_is : holds outside b l ≡ false → holds too_soon b l ≡ c.too_soon
   pub falling_is : holds outside b l ≡ false → holds falling b l ≡ c.falling
-  pub excess_is : holds tooMany b l ≡ c.too_many
+  pub excess_is : holds too_many b l ≡ c.too_many
   pub count_is : holds outside b l ≡ false → holds miscounted b l ≡ c.miscounted
 
 pub chain : (t : Tag) (b : Before) (l : Line) (c : Checks) → Known t l → Asks b l c → refusal b l ≡ first_of (asked c) order
@@ -69,11 +69,11 @@ chain t b l c k a =
     at misplaced _ a.misplaced_is (λ _.
     at malformed _ a.malformed_is (λ _.
     at outside _ a.outside_is (λ o.
-    at noDate _ (a.date_is o) (λ d.
+    at no_date _ (a.date_is o) (λ d.
     at not_later _ (a.later_is o d) (λ _.
-    at tooSoon _ (a.soon_is o) (λ _.
+    at too_soon _ (a.soon_is o) (λ _.
     at falling _ (a.falling_is o) (λ _.
-    at tooMany _ a.excess_is (λ _.
+    at too_many _ a.excess_is (λ _.
     at miscounted [] (a.count_is o) (λ _. end)))))))))))
   where
     at : (y : Reason) (ys : List Reason) → holds y b l ≡ asked c y → (holds y b l ≡ false → first_of (λ x. holds x b l) ys ≡ first_of (asked c) ys)
@@ -91,11 +91,11 @@ number_above unknown e = omega arith
 number_above misplaced e = omega arith
 number_above malformed e = omega arith
 number_above outside e = omega arith
-number_above noDate e = omega arith
+number_above no_date e = omega arith
 number_above not_later e = omega arith
-number_above tooSoon e = omega arith
+number_above too_soon e = omega arith
 number_above falling e = omega arith
-number_above tooMany e = omega arith
+number_above too_many e = omega arith
 number_above miscounted e = omega arith
 
 -- 0 is no refusal's number
@@ -126,8 +126,8 @@ unfolding misplaced_by is_misplaced
 misplaced_other zero m t s = rw s
 misplaced_other (suc n) m t s = rw (s, eqb-suc-zero n, eqb_sym 8 (suc n))
 
-pub misplaced_rank : (last : ℕ) (t : Tag) → is S t ≡ false → misplaced_by last noMeter t ≡ is_misplaced last t
-misplaced_rank last t s = misplaced_other last noMeter t s ∙ or_and_false (is_misplaced last t) (is C t)
+pub misplaced_rank : (last : ℕ) (t : Tag) → is S t ≡ false → misplaced_by last no_meter t ≡ is_misplaced last t
+misplaced_rank last t s = misplaced_other last no_meter t s ∙ or_and_false (is_misplaced last t) (is C t)
 
 pub barred_first : (last : ℕ) (m : Meter) → misplaced_by last m S ≡ not (eqb last 0)
 unfolding misplaced_by
@@ -140,11 +140,11 @@ barred_first (suc n) m = rw (eqb-suc-zero n, or_true (ltb 1 (suc n)))
 
 -- ---- conditions that hold for no line of a tag
 module _ (b : Before) (l : Line) (t : Tag) (u : tag_of l ≡ t) where
-  pub needs_no_date : has_date_on t ≡ false → holds noDate b l ≡ false
+  pub needs_no_date : has_date_on t ≡ false → holds no_date b l ≡ false
   unfolding holds has_no_date
   needs_no_date h = rw (u, h)
 
-  pub never_soon : is S t ≡ false → holds tooSoon b l ≡ false
+  pub never_soon : is S t ≡ false → holds too_soon b l ≡ false
   unfolding holds
   never_soon h = rw (u, h)
 
@@ -152,7 +152,7 @@ module _ (b : Before) (l : Line) (t : Tag) (u : tag_of l ≡ t) where
   unfolding holds
   never_falling h = rw (u, h)
 
-  pub never_many : is X t ≡ false → holds tooMany b l ≡ false
+  pub never_many : is X t ≡ false → holds too_many b l ≡ false
   unfolding holds
   never_many h = rw (u, h)
 

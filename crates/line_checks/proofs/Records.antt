@@ -7,9 +7,9 @@ use lib.Dec.{eqb, leb, ltb, eqb-suc-zero}
 use Rattle.lists.specs.Lists.{first_of}
 use Rattle.calendar.specs.declared.Years.{Years}
 use Rattle.calendar.specs.Spans.{years, history_years}
-use Rattle.meaning.specs.Filing.{Meter, noMeter}
+use Rattle.meaning.specs.Filing.{Meter, no_meter}
 use Rattle.meaning.specs.Line.{Line, Tag, S, C, X, D, P, B, R, E, is, tag_of, key_of, number_at}
-use Rattle.meaning.specs.Refusals.{Before, Reason, illegible, unknown, misplaced, malformed, outside, noDate, not_later, tooSoon, falling, tooMany, miscounted, holds, order, refusal, is_outside, most_readings}
+use Rattle.meaning.specs.Refusals.{Before, Reason, illegible, unknown, misplaced, malformed, outside, no_date, not_later, too_soon, falling, too_many, miscounted, holds, order, refusal, is_outside, most_readings}
 use Rattle.meaning.specs.File.{is_index_meter}
 use Rattle.meaning.specs.Record.{Rec, last_of, misplaced_by, not_later_by, before_of, is_taken, site_of_rec, history_of_site, history_of_rec}
 use Rattle.line_form.proofs.Checks.{outside_s, outside_e}
@@ -32,11 +32,11 @@ module _ (b c : Before) (l : Line) where
       at misplaced _ p (λ q.
       at malformed _ refl (λ _.
       at outside _ (o q) (λ _.
-      at noDate _ refl (λ _.
+      at no_date _ refl (λ _.
       at not_later _ r (λ _.
-      at tooSoon _ refl (λ _.
+      at too_soon _ refl (λ _.
       at falling _ i (λ _.
-      at tooMany _ n (λ _.
+      at too_many _ n (λ _.
       at miscounted [] k (λ _. end)))))))))))
     where
       at : (y : Reason) (ys : List Reason) → holds y b l ≡ holds y c l → (holds y b l ≡ false → first_of (λ x. holds x b l) ys ≡ first_of (λ x. holds x c l) ys)
@@ -80,7 +80,7 @@ module _ (s : Rec) (l : Line) where
   unfolding before_of before_first before_like not_later_by is_not_later
   before_s u =
       same_refusal (before_of s) (before_first s.last) l
-      (rw u (barred_first s.last s.site.meter ∙ sym (barred_first s.last noMeter)))
+      (rw u (barred_first s.last s.site.meter ∙ sym (barred_first s.last no_meter)))
       (λ _. outside_s (history_of_rec s) l u ∙ sym (outside_s (years 0 0) l u))
       (rw u refl)
       (rw u refl)
@@ -94,24 +94,24 @@ module _ (s : Rec) (l : Line) where
   pub before_x : tag_of l ≡ X
       → refusal (before_of s) l ≡ refusal (before_reading s.last (history_years s.site.al s.site.filiere) s.lasts.x s.last_index s.readings) l
   unfolding before_reading
-  before_x u = before_same s l X u refl noMeter _ s.last_index s.readings 0 refl (λ e. rw e refl) refl refl refl
+  before_x u = before_same s l X u refl no_meter _ s.last_index s.readings 0 refl (λ e. rw e refl) refl refl refl
 
   pub before_d : tag_of l ≡ D → refusal (before_of s) l ≡ refusal (before_rising s.last (history_years s.site.al s.site.filiere) s.lasts.d) l
   unfolding before_rising
-  before_d u = before_same s l D u refl noMeter _ 0 0 0 refl (λ e. rw e refl) refl refl refl
+  before_d u = before_same s l D u refl no_meter _ 0 0 0 refl (λ e. rw e refl) refl refl refl
 
   pub before_p : tag_of l ≡ P → refusal (before_of s) l ≡ refusal (before_rising s.last (history_years s.site.al s.site.filiere) s.lasts.p) l
   unfolding before_rising
-  before_p u = before_same s l P u refl noMeter _ 0 0 0 refl (λ e. rw e refl) refl refl refl
+  before_p u = before_same s l P u refl no_meter _ 0 0 0 refl (λ e. rw e refl) refl refl refl
 
   pub before_b : tag_of l ≡ B → refusal (before_of s) l ≡ refusal (before_rising s.last (history_years s.site.al s.site.filiere) s.lasts.b) l
   unfolding before_rising
-  before_b u = before_same s l B u refl noMeter _ 0 0 0 refl (λ e. rw e refl) refl refl refl
+  before_b u = before_same s l B u refl no_meter _ 0 0 0 refl (λ e. rw e refl) refl refl refl
 
   pub before_r : tag_of l ≡ R → refusal (before_of s) l ≡ refusal (before_rising s.last (history_years s.site.al s.site.filiere) s.lasts.r) l
   unfolding before_rising
-  before_r u = before_same s l R u refl noMeter _ 0 0 0 refl (λ e. rw e refl) refl refl refl
+  before_r u = before_same s l R u refl no_meter _ 0 0 0 refl (λ e. rw e refl) refl refl refl
 
   pub before_e : tag_of l ≡ E → refusal (before_of s) l ≡ refusal (before_end s.last s.count) l
   unfolding before_end
-  before_e u = before_same s l E u refl noMeter (years 0 0) 0 0 s.count refl (λ _. outside_e (history_of_rec s) l u ∙ sym (outside_e (years 0 0) l u)) refl refl refl
+  before_e u = before_same s l E u refl no_meter (years 0 0) 0 0 s.count refl (λ _. outside_e (history_of_rec s) l u ∙ sym (outside_e (years 0 0) l u)) refl refl refl

@@ -142,13 +142,13 @@ unfolding count_read_of is_count_outside
 exact_e h l e o = above_in l 1 9999 (omega arith) (sym (outside_e h l e) ∙ o)
 
 -- ---- 7, y being the year of the line
-pub no_date : (t : Tag) (l : Line) (y : ℕ) → tag_of l ≡ t → T (has_date_on t) → y ≡ year_on l → has_no_date l ≡ no_date_for (is_winter_tag t) y (capped_at l 2) (capped_at l 3)
+pub no_date_lem : (t : Tag) (l : Line) (y : ℕ) → tag_of l ≡ t → T (has_date_on t) → y ≡ year_on l → has_no_date l ≡ no_date_for (is_winter_tag t) y (capped_at l 2) (capped_at l 3)
 unfolding has_no_date no_date_for capped_at
-no_date t l y e d p = rw (e, is_true (has_date_on t) d, p, date_capped (year_on l) (month_on l) (day_on l), winter_capped (month_on l))
+no_date_lem t l y e d p = rw (e, is_true (has_date_on t) d, p, date_capped (year_on l) (month_on l) (day_on l), winter_capped (month_on l))
 
 -- month and day of a date that exists are not capped
 pub exact_date : (t : Tag) (l : Line) → tag_of l ≡ t → T (has_date_on t) → has_no_date l ≡ false → (capped_at l 2 ≡ month_on l) × (capped_at l 3 ≡ day_on l)
 unfolding no_date_for capped_at
 exact_date t l e d o =
-    let p = or_parts _ _ (sym (no_date t l (year_on l) e d refl) ∙ o) in
+    let p = or_parts _ _ (sym (no_date_lem t l (year_on l) e d refl) ∙ o) in
     date_exact (year_on l) (month_on l) (day_on l) (holds (is_date (year_on l) (min (month_on l) most) (min (day_on l) most)) p.0)

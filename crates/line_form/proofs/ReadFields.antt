@@ -171,5 +171,5 @@ module _ (l : Line) (z : length l ≡ 0 → ⊥) (h : length l ≤ 320) where
         handed _ (k + 1) (k + 1) (clean_past l fields rest k w n e q ∙ rw (past_none rest none)) (inr (omega arith)) (field_on l fields rest k w n e f x j p px) (omega arith)
 
     -- there are fields after the 24th
-    pub too_many : 24 ≤ k → k ≤ 24 → any is_invalid rest ≡ false → ◌≡◌ {A = Fields} (record { count = 25; fields = fields }) (fields_of l)
-    too_many lo hi e = let c = w.count in handed fields k 25 (w.clean ∙ e) (inl lo) w.fields (omega arith)
+    pub too_many_lem : 24 ≤ k → k ≤ 24 → any is_invalid rest ≡ false → ◌≡◌ {A = Fields} (record { count = 25; fields = fields }) (fields_of l)
+    too_many_lem lo hi e = let c = w.count in handed fields k 25 (w.clean ∙ e) (inl lo) w.fields (omega arith)

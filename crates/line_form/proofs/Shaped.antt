@@ -13,7 +13,7 @@ use Rattle.text.specs.Numbers.{is_digit, is_number, is_dash}
 use Rattle.text.specs.Fields.{reads, edition}
 use Rattle.text.proofs.Laws.{of_reads}
 use Rattle.meaning.specs.Line.{other, tag_of_field, tag_of_letter, meter_of, meter_of_letter, kind_of, kind_of_letter}
-use Rattle.meaning.specs.Filing.{noMeter, noKind}
+use Rattle.meaning.specs.Filing.{no_meter, no_kind}
 use Rattle.line_form.specs.Shapes.{alone_of, shape_by, shape_of, is_numeral, is_edition, byte_of}
 use Rattle.line_form.specs.declared.Shape.{Shape}
 use Rattle.line_form.specs.declared.Shape.TheVariants.{Number, Edition, Byte, Other}
@@ -108,16 +108,16 @@ shape_tag f = letter tag_of_field tag_of_letter other refl (λ b. refl) (λ b c 
 
 pub shape_meter : (f : List ℕ) → meter_of f ≡ meter_of_letter (byte_of (shape_of f))
 unfolding meter_of meter_of_letter
-shape_meter f = letter meter_of meter_of_letter noMeter refl (λ b. refl) (λ b c f. refl) refl (λ b lo hi. no b lo hi) f
+shape_meter f = letter meter_of meter_of_letter no_meter refl (λ b. refl) (λ b c f. refl) refl (λ b lo hi. no b lo hi) f
   where
-    no : (b : ℕ) → 48 ≤ b → b ≤ 57 → meter_of_letter b ≡ noMeter
+    no : (b : ℕ) → 48 ≤ b → b ≤ 57 → meter_of_letter b ≡ no_meter
     no b lo hi = simp (ne_eqb b 84 (λ (z : b ≡ 84). omega arith), ne_eqb b 73 (λ (z : b ≡ 73). omega arith))
 
 pub shape_kind : (f : List ℕ) → kind_of f ≡ kind_of_letter (byte_of (shape_of f))
 unfolding kind_of kind_of_letter
-shape_kind f = letter kind_of kind_of_letter noKind refl (λ b. refl) (λ b c f. refl) refl (λ b lo hi. no b lo hi) f
+shape_kind f = letter kind_of kind_of_letter no_kind refl (λ b. refl) (λ b c f. refl) refl (λ b lo hi. no b lo hi) f
   where
-    no : (b : ℕ) → 48 ≤ b → b ≤ 57 → kind_of_letter b ≡ noKind
+    no : (b : ℕ) → 48 ≤ b → b ≤ 57 → kind_of_letter b ≡ no_kind
     no b lo hi = simp (ne_eqb b 82 (λ (z : b ≡ 82). omega arith), ne_eqb b 67 (λ (z : b ≡ 67). omega arith), ne_eqb b 69 (λ (z : b ≡ 69). omega arith))
 
 pub shape_dash : (f : List ℕ) → is_dash f ≡ eqb (byte_of (shape_of f)) 45

@@ -13,10 +13,10 @@ use Rattle.calendar.specs.Spans.{among, history_years}
 use Rattle.calendar.specs.Answers.{winter_place_of}
 use Rattle.meaning.specs.Filing.{Meter}
 use Rattle.meaning.specs.Line.{Line, Tag, C, P, S, X, E, is, key_of, year_on, winter_on, has_date_on, is_winter_tag}
-use Rattle.meaning.specs.Refusals.{Before, outside, noDate, misplaced, malformed, holds, refusal, is_outside, has_no_date}
+use Rattle.meaning.specs.Refusals.{Before, outside, no_date, holds, refusal, is_outside, has_no_date}
 use Rattle.line_form.specs.Ranges.{no_date_for}
 use Rattle.line_form.proofs.Capped.{early_history}
-use Rattle.line_form.proofs.Checks.{no_date}
+use Rattle.line_form.proofs.Checks.{no_date_lem}
 use Rattle.line_form.specs.Codes.{point_row, profile_row, is_point_outside, is_profile_outside}
 use Rattle.line_form.specs.ValueReads.{date_read_of}
 use Rattle.line_form.specs.ValueRanges.{is_points_outside, is_profiles_outside}
@@ -63,7 +63,7 @@ module _ (t : Tag) (l : Line) (b : Before) (al f latest : ℕ) (late above : Boo
   date_in_lem : is_outside (history_years al f) l ≡ false → has_no_date l ≡ no_date_for true (date_read_of t l).year (date_read_of t l).month (date_read_of t l).day
   unfolding date_read_of
   date_in_lem o =
-      no_date t l (date_read_of t l).year c.known.tag c.dated (c.exact o)
+      no_date_lem t l (date_read_of t l).year c.known.tag c.dated (c.exact o)
       ∙ ap (λ (x : Bool). no_date_for x (date_read_of t l).year (date_read_of t l).month (date_read_of t l).day) (is_true (is_winter_tag t) c.winter)
 
   asks : Asks b l (record {
@@ -114,7 +114,7 @@ module _ (t : Tag) (l : Line) (b : Before) (al f latest : ℕ) (late above : Boo
   unfolding holds
   winter_says r p v er ep ev q =
       let o : is_outside (history_years al f) l ≡ false = rw c.history_is at (clear b l q outside) in
-      let d : has_no_date l ≡ false = clear b l q noDate in
+      let d : has_no_date l ≡ false = clear b l q no_date in
       record { year_is = rw er (c.exact o); place_is = ep ∙ rw er (place_in d); key_is = ev ∙ rw er (key_in o d) }
 
 -- ---- C

@@ -11,14 +11,14 @@ use Rattle.calendar.specs.Spans.{among, axis_years, history_years, position_of}
 use Rattle.calendar.specs.Answers.{position_in}
 use Rattle.text.specs.Fields.{field_at}
 use Rattle.meaning.specs.Line.{Line, X, D, kind_of, key_of, year_on, month_on, day_on, most_index, most_daily}
-use Rattle.meaning.specs.Refusals.{outside, noDate, holds, refusal, is_outside, has_no_date}
+use Rattle.meaning.specs.Refusals.{outside, no_date, holds, refusal, is_outside, has_no_date}
 use Rattle.readings.specs.Readings.{kind_repr}
 use Rattle.line_form.specs.Reads.{reading_read_of, daily_read_of}
 use Rattle.line_form.specs.Ranges.{is_reading_outside, is_daily_outside, no_date_for}
 use Rattle.line_form.specs.declared.axis_fields.ReadingRead.{ReadingRead}
 use Rattle.line_form.specs.declared.axis_fields.DailyRead.{DailyRead}
 use Rattle.line_form.proofs.Capped.{early_history, not_leb}
-use Rattle.line_form.proofs.Checks.{malformed_x, malformed_d, outside_x, outside_d, exact_x, exact_d, no_date}
+use Rattle.line_form.proofs.Checks.{malformed_x, malformed_d, outside_x, outside_d, exact_x, exact_d, no_date_lem}
 use Rattle.line_checks.specs.Before.{Known, is_not_later, before_like, before_rising, before_reading}
 use Rattle.line_checks.specs.Order.{number_by, first_refusal, is_misplaced}
 use Rattle.line_checks.proofs.Chain.{Asks, clear, misplaced_rank, never_soon, never_falling, never_many, no_count}
@@ -77,7 +77,7 @@ module _ (l : Line) (last al f latest previous readings : ℕ) (k : Known X l) w
         misplaced_is = rw u (misplaced_rank last X refl);
         malformed_is = malformed_x l u;
         outside_is = outside_x h l e u ∙ off (among (axis_years h) r.year) r.index most_index;
-        date_is = λ o. unfold reading_read_of in no_date X l (reading_read_of l).year u tt (exact_x h l e u o).0;
+        date_is = λ o. unfold reading_read_of in no_date_lem X l (reading_read_of l).year u tt (exact_x h l e u o).0;
         later_is = λ o d. rw u (ap (is_not_later latest) (sym (reading_key o d)));
         soon_is = λ _. never_soon b l X u refl;
         falling_is = λ o. rw u (ap (λ (v : ℕ). ltb v previous) (sym (exact_x h l e u o).1));
@@ -109,7 +109,7 @@ module _ (l : Line) (last al f latest previous readings : ℕ) (k : Known X l) w
       let h = history_years al f in
       let b = before_reading last h latest previous readings in
       let o : is_outside h l ≡ false = clear b l q outside in
-      let d : has_no_date l ≡ false = clear b l q noDate in
+      let d : has_no_date l ≡ false = clear b l q no_date in
       let x = exact_x h l (early_history al f) k.tag o in
       record {
         position_is = ep ∙ rw er (reading_position o d);
@@ -160,7 +160,7 @@ module _ (l : Line) (last al f latest : ℕ) (k : Known D l) where
         misplaced_is = rw u (misplaced_rank last D refl);
         malformed_is = malformed_d l u;
         outside_is = outside_d h l e u ∙ off (among (axis_years h) r.year) r.sum most_daily;
-        date_is = λ o. unfold daily_read_of in no_date D l (daily_read_of l).year u tt (exact_d h l e u o).0;
+        date_is = λ o. unfold daily_read_of in no_date_lem D l (daily_read_of l).year u tt (exact_d h l e u o).0;
         later_is = λ o d. rw u (ap (is_not_later latest) (sym (daily_key o d)));
         soon_is = λ _. never_soon b l D u refl;
         falling_is = λ _. never_falling b l D u refl;
@@ -192,7 +192,7 @@ module _ (l : Line) (last al f latest : ℕ) (k : Known D l) where
       let h = history_years al f in
       let b = before_rising last h latest in
       let o : is_outside h l ≡ false = clear b l q outside in
-      let d : has_no_date l ≡ false = clear b l q noDate in
+      let d : has_no_date l ≡ false = clear b l q no_date in
       let x = exact_d h l (early_history al f) k.tag o in
       record {
         year_is = rw er x.0;

@@ -1,5 +1,5 @@
 -- Loops that count up: what is left of a range and of a list, one element less in each iteration.
-use mathlib.Core.Path.{◌≡◌, ap, sym}
+use mathlib.Core.Path.{◌≡◌, sym}
 use mathlib.Core.Bool.{Bool, true, false, cond}
 use mathlib.Core.List.{List, [], ◌∷◌, map}
 use Prim.Native.Nat.{ℕ, suc, ◌+◌, ◌-◌, ◌*◌, ◌≤◌, ◌<◌}

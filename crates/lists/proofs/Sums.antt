@@ -50,6 +50,7 @@ in_range_lem i n k h g = some_tab n i (λ m. m) (k - i) (omega arith) (omega ari
 -- what holds of f at some place holds of some element of the table
 pub some_ranged : {A : Type 0} {P : A → Type 0} (n i : ℕ) (f : ℕ → A) → Some (λ k. P (f k)) (range i n) → Some P (tab n i f)
 unfolding tab range
+some_ranged {A = A} {P = P} zero i f r = elim r [ ]
 some_ranged (suc n) i f (here p) = here p
 some_ranged (suc n) i f (there r) = there (some_ranged n (suc i) f r)
 
@@ -63,6 +64,7 @@ some_picture f (here p) = here p
 some_picture f (there r) = there (some_picture f r)
 
 pub pictured : {A B : Type 0} {P : B → Type 0} (f : A → B) (xs : List A) → Some P (map f xs) → Some (λ x. P (f x)) xs
+pictured {A = A} {B = B} {P = P} f [] r = elim r [ ]
 pictured f (x ∷ xs) (here p) = here p
 pictured f (x ∷ xs) (there r) = there (pictured f xs r)
 
@@ -134,6 +136,7 @@ in_present (there {x = some y} r) = there (in_present r)
 
 pub present_in_lem : {A : Type 0} {x : A} (os : List (Option A)) → In x (present os) → In (some x) os
 unfolding present
+present_in_lem {A = A} [] r = elim r [ ]
 present_in_lem (none ∷ os) r = there (present_in_lem os r)
 present_in_lem (some y ∷ os) (here p) = here {x = some y} (ap some p)
 present_in_lem (some y ∷ os) (there r) = there (present_in_lem os r)

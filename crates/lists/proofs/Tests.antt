@@ -52,6 +52,7 @@ and_assoc false b c = refl
 -- ---- one of two
 pub or_left : (a b : Bool) → T a → T (a || b)
 or_left true b t = tt
+or_left false b t = elim t [ ]
 
 pub or_right : (a b : Bool) → T b → T (a || b)
 or_right true b t = tt

@@ -13,9 +13,8 @@ use Rattle.calendar.specs.Dates.{is_date, is_winter}
 use Rattle.calendar.specs.Spans.{among, axis_years}
 use Rattle.text.specs.Fields.{field_at}
 use Rattle.text.specs.Numbers.{is_dash, value_of}
-use Rattle.meaning.specs.Filing.{Site}
-use Rattle.meaning.specs.Line.{Line, Tag, S, C, X, D, P, B, R, E, other, is, rank, Form, edition, number, number_or_dash, history_year, axis_year, date_number, forms_of, tag_of, in_form, in_range, is_meter, kind_of, is_kind, number_at, year_on, month_on, day_on, site_on, value_at, point_of, has_date_on, is_winter_tag, most_power, most_index, most_daily, most_profile}
-use Rattle.meaning.specs.Refusals.{Before, noDate, holds, has_no_date, refusal}
+use Rattle.meaning.specs.Line.{Line, Tag, S, C, X, D, P, B, R, E, other, is, rank, edition, number, number_or_dash, history_year, date_number, forms_of, tag_of, in_form, in_range, is_meter, kind_of, is_kind, number_at, year_on, month_on, day_on, site_on, value_at, point_of, has_date_on, is_winter_tag, most_power, most_index, most_daily, most_profile}
+use Rattle.meaning.specs.Refusals.{Before, no_date, holds, has_no_date, refusal}
 use Rattle.meaning.proofs.Passed.{passed, in_form_lem, in_range_lem}
 
 -- ---- tests
@@ -33,7 +32,7 @@ module _ (b : Before) (l : Line) (e : refusal b l ≡ none) (t : Tag) (u : tag_o
 
   pub date_of : T (has_date_on t) → T (is_date (year_on l) (month_on l) (day_on l)) × (T (is_winter_tag t) → T (is_winter (month_on l)))
   unfolding holds has_no_date
-  date_of d = go (has_date_on t) (is_date (year_on l) (month_on l) (day_on l)) (is_winter_tag t) (is_winter (month_on l)) d (rw u at (passed b l e noDate))
+  date_of d = go (has_date_on t) (is_date (year_on l) (month_on l) (day_on l)) (is_winter_tag t) (is_winter (month_on l)) d (rw u at (passed b l e no_date))
     where
       go : (x y z v : Bool) → T x → T (not (x && (not y || (z && not v)))) → T y × (T z → T v)
       go true true true true h n = (tt, λ _. tt)

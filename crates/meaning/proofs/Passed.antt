@@ -12,7 +12,7 @@ use Rattle.lists.proofs.Laws.{first_none}
 use Rattle.lists.proofs.Tests.{or_split, not_not}
 use Rattle.text.specs.Fields.{up_to, past, rest_at, field_at}
 use Rattle.meaning.specs.Line.{Line, Form, edition, some_field, forms_of, in_form, in_range, tag_of}
-use Rattle.meaning.specs.Refusals.{Before, Reason, illegible, unknown, misplaced, malformed, outside, noDate, not_later, tooSoon, falling, tooMany, miscounted, holds, order, refusal, is_malformed, is_outside}
+use Rattle.meaning.specs.Refusals.{Before, Reason, illegible, unknown, misplaced, malformed, outside, no_date, not_later, too_soon, falling, too_many, miscounted, holds, order, refusal, is_malformed, is_outside}
 
 -- the first of each, and the rest
 pub each_head : {A : Type 0} {P : A → Type 0} {x : A} {xs : List A} → Each P (x ∷ xs) → P x
@@ -29,11 +29,11 @@ each_reason e unknown = each_head (each_tail e)
 each_reason e misplaced = each_head (each_tail (each_tail e))
 each_reason e malformed = each_head (each_tail (each_tail (each_tail e)))
 each_reason e outside = each_head (each_tail (each_tail (each_tail (each_tail e))))
-each_reason e noDate = each_head (each_tail (each_tail (each_tail (each_tail (each_tail e)))))
+each_reason e no_date = each_head (each_tail (each_tail (each_tail (each_tail (each_tail e)))))
 each_reason e not_later = each_head (each_tail (each_tail (each_tail (each_tail (each_tail (each_tail e))))))
-each_reason e tooSoon = each_head (each_tail (each_tail (each_tail (each_tail (each_tail (each_tail (each_tail e)))))))
+each_reason e too_soon = each_head (each_tail (each_tail (each_tail (each_tail (each_tail (each_tail (each_tail e)))))))
 each_reason e falling = each_head (each_tail (each_tail (each_tail (each_tail (each_tail (each_tail (each_tail (each_tail e))))))))
-each_reason e tooMany = each_head (each_tail (each_tail (each_tail (each_tail (each_tail (each_tail (each_tail (each_tail (each_tail e)))))))))
+each_reason e too_many = each_head (each_tail (each_tail (each_tail (each_tail (each_tail (each_tail (each_tail (each_tail (each_tail e)))))))))
 each_reason e miscounted = each_head (each_tail (each_tail (each_tail (each_tail (each_tail (each_tail (each_tail (each_tail (each_tail (each_tail e))))))))))
 
 -- none of the reasons holds

@@ -6,8 +6,7 @@ use Prim.Native.Nat.{ℕ}
 use lib.Dec.{eqb, eqb→eq}
 use lib.ListN.{length, replicate}
 use Rattle.meaning.specs.Level.{missing_entry}
-use Rattle.meaning.specs.Filing as meant
-use Rattle.meaning.specs.Blocks.{Blocks, sizes_fit, fresh_reading, fresh_blocks, missing_point, points_size, slots_size, daily_size, readings_size, curve_size}
+use Rattle.meaning.specs.Blocks.{sizes_fit, fresh_reading, fresh_blocks, missing_point, points_size, slots_size, daily_size, readings_size, curve_size}
 use Rattle.readings.specs.declared.Reading.{Reading}
 use Rattle.readings.specs.Readings.{readings_view, freshened}
 use Rattle.readings.specs.Columns.{lent_blocks}

@@ -11,13 +11,12 @@ use borrow.Author.Tests.{ltb-true, ltb-false}
 use Rattle.lists.proofs.Tests.{not_and}
 use Rattle.meaning.specs.Blocks.{Blocks}
 use Rattle.meaning.specs.Calls.{Out, line_of}
-use Rattle.pieces.specs.Run.{run_of, is_final, applied, longer, fed}
+use Rattle.pieces.specs.Run.{run_of, is_final, applied, fed}
 use Rattle.pieces.specs.Parts.{end_at, stepped}
 use Rattle.pieces.proofs.Feeding.{fed_append, kept}
 use Rattle.pieces.proofs.Parts.{end_within, longer_given, longer_held, none_left, turn_fed}
 use Rattle.answers.specs.Views.{answer_view}
 use Rattle.pieces.specs.LineSpans.{part_of, left_at, limit_at, bytes_at, span_at}
-use Rattle.record_calls.specs.declared.CallResult.{CallResult}
 use Rattle.record_calls.specs.Views.{view, call_view}
 use Rattle.piece_lines.specs.declared.LineCursor.{LineCursor}
 use Rattle.piece_lines.specs.Cursors.{cursor_at, has_line, call_of_cursor, line_on, cursor_view}

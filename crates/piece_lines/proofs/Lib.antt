@@ -1,4 +1,2 @@
 pub mod Laws
 pub mod AppliedLines
-pub mod Reborrows
-pub mod BodyRests

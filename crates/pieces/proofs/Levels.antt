@@ -1,5 +1,5 @@
 -- A level on a sheet lies within the bound of demand 3: such a sheet's lines are all accepted, and so the file of its close.
-use mathlib.Core.Path.{◌≡◌, refl, ap}
+use mathlib.Core.Path.{◌≡◌, refl}
 use mathlib.Core.List.{List, [], ◌∷◌, ◌++◌, append_assoc, append-nil}
 use mathlib.Core.Option.{Option, some, none}
 use Prim.Native.Nat.{ℕ, ◌+◌}
@@ -13,7 +13,7 @@ use Rattle.meaning.specs.Level.{Report, report_of}
 use Rattle.meaning.specs.Closing.{CloseReason, closing_refusal}
 use Rattle.meaning.specs.Blocks.{Blocks}
 use Rattle.meaning.specs.Record.{Rec}
-use Rattle.meaning.specs.Sheet.{refused_sheet, level, refused_at, closing_by, closing_of, outcome_by, outcome_from, outcome_of, sheet_of}
+use Rattle.meaning.specs.Sheet.{level, refused_at, closing_by, closing_of, outcome_by, outcome_from, outcome_of, sheet_of}
 use Rattle.demands.specs.Demands.{Bounded}
 use Rattle.demands.proofs.Bound.Theorem.{bounded_report}
 use Rattle.demands.proofs.Held.Rec.{rec_step}

@@ -1,5 +1,5 @@
 -- A line of over 320 bytes is refused, whatever follows: the call gives the same for the line and for its first 321 bytes.
-use mathlib.Core.Path.{◌≡◌, refl, ap}
+use mathlib.Core.Path.{◌≡◌, refl}
 use mathlib.Core.Bool.{Bool, true, false, ◌&&◌, cond}
 use mathlib.Core.List.{◌++◌}
 use mathlib.Core.Option.{some}

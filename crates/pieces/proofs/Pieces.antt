@@ -2,7 +2,7 @@
 use mathlib.Core.Path.{◌≡◌, refl, ap, sym, ◌∙◌}
 use mathlib.Core.Bool.{Bool, true, false, cond}
 use mathlib.Core.List.{List, [], ◌∷◌, ◌++◌, append_assoc, append-nil}
-use Prim.Native.Nat.{ℕ, ◌+◌, ◌≤◌, ◌<◌}
+use Prim.Native.Nat.{ℕ, ◌≤◌, ◌<◌}
 use native.Mathlib.Omega.{arith}
 use lib.Dec.{eqb, ltb}
 use lib.ListN.{length}
@@ -14,7 +14,7 @@ use Rattle.meaning.specs.Text.{text_of}
 use Rattle.meaning.specs.Blocks.{Blocks}
 use Rattle.meaning.specs.Record.{Rec}
 use Rattle.meaning.specs.Calls.{Out, opening_of, line_of, close_of}
-use Rattle.meaning.specs.Sheet.{Outcome, sheet_of, outcome_of}
+use Rattle.meaning.specs.Sheet.{Outcome, sheet_of}
 use Rattle.demands.specs.CallLists.{called, outcome_of_out, onward, run_from, run}
 use Rattle.meaning.proofs.Pins.Input.{input_words}
 use Rattle.demands.proofs.Demand2.{demand_2}

@@ -14,7 +14,7 @@ use Rattle.lists.proofs.FilledTables.{tab_on, tab_end}
 use Rattle.lists.proofs.Sums.{Held, each_tab, each_present}
 use Rattle.rounding.specs.Answers.{point_of}
 use Rattle.rounding.specs.Points.{rounded, rebuilt, exceeds}
-use Rattle.meaning.specs.Points.{Origin, Donor, own, own_of, rounded_point, source_exceeds, origin_exceeds, rounded_origin, donor_points, donor_cas, rebuilt_by}
+use Rattle.meaning.specs.Points.{Origin, Donor, own_of, rounded_point, source_exceeds, origin_exceeds, rounded_origin, donor_points, donor_cas, rebuilt_by}
 use Rattle.points.specs.declared.own.PlacePoint.{PlacePoint}
 use Rattle.points.specs.PlacePoints.{place_point_where, place_point_of, place_point_by}
 use Rattle.points.specs.OwnFits.{PlacePointFits, PlacePointIs}

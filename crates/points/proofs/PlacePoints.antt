@@ -5,11 +5,11 @@ use mathlib.Core.Option.{some}
 use Prim.Native.Nat.{ℕ, ◌+◌, ◌*◌, ◌≤◌}
 use native.Mathlib.Nat.{div-zero}
 use native.Mathlib.Omega.{arith}
-use lib.Dec.{T, eqb, leb, ltb, leb→le}
+use lib.Dec.{T, ltb, leb→le}
 use borrow.Author.Tests.{ltb-false, ne_eqb, eq-eqb}
 use Rattle.rounding.specs.Rounding.{half_up}
 use Rattle.rounding.specs.Points.{over, rounded, profiled, by_default, exceeds, most_point}
-use Rattle.rounding.specs.Answers.{power_of, point_of, point_where}
+use Rattle.rounding.specs.Answers.{in_mw, point_of, point_where}
 use Rattle.rounding.proofs.Laws.{half_up_only}
 use Rattle.meaning.specs.Points.{own, by_profile, from_default, own_of, read_by, rounded_point, source_exceeds, origin_exceeds, rounded_origin, fraction_of}
 use Rattle.meaning.specs.Blocks.{missing_point, point_of_code}
@@ -17,7 +17,7 @@ use Rattle.points.specs.declared.own.PlacePoint.{PlacePoint}
 use Rattle.points.specs.PlacePoints.{place_point_where, place_point_of, place_point_by}
 use Rattle.points.specs.OwnFits.{is_point, PlacePointFits, PlacePointIs}
 
--- ---- a rounded number of power_of
+-- ---- a rounded number of mW
 pub by_point : (n : ℕ) → place_point_by (point_of n) ≡ place_point_where (exceeds n) (some n)
 unfolding point_of point_where place_point_where
 by_point n = go (exceeds n)
@@ -53,7 +53,7 @@ no_total : (e p : ℕ) → rounded (profiled e p 0) ≡ 0
 unfolding rounded profiled half_up
 no_total e p = div-zero (2 * (2000 * e * p) + 0)
 
-pub empty_filled : (e p t : ℕ) → t ≡ 0 → PlacePointIs (own (by_profile e p t)) (PlacePoint.Is (power_of 0))
+pub empty_filled : (e p t : ℕ) → t ≡ 0 → PlacePointIs (own (by_profile e p t)) (PlacePoint.Is (in_mw 0))
 unfolding place_point_of place_point_where source_exceeds origin_exceeds rounded_point rounded_origin fraction_of exceeds
 empty_filled e p t h = record { is = rw (h, no_total e p); fits = omega arith }
 
@@ -70,7 +70,7 @@ pub missing_filled : (v : ℕ) → v ≡ missing_point → PlacePointIs (own_of 
 unfolding place_point_of place_point_where own_of read_by point_of_code source_exceeds rounded_point
 missing_filled v h = record { is = rw (eq-eqb v missing_point h); fits = tt }
 
-pub read_filled : (v : ℕ) → T (is_point v) → (v ≡ missing_point → ⊥) → PlacePointIs (own_of (read_by (point_of_code v))) (PlacePoint.Is (power_of (1000 * v)))
+pub read_filled : (v : ℕ) → T (is_point v) → (v ≡ missing_point → ⊥) → PlacePointIs (own_of (read_by (point_of_code v))) (PlacePoint.Is (in_mw (1000 * v)))
 unfolding place_point_of place_point_where own_of read_by point_of_code source_exceeds origin_exceeds rounded_point rounded_origin fraction_of
 read_filled v t h =
     record {

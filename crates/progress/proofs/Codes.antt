@@ -1,5 +1,5 @@
 -- The codes of an accepted C or P line are what the blocks hold after it.
-use mathlib.Core.Path.{◌≡◌, refl, ap, ◌∙◌}
+use mathlib.Core.Path.{◌≡◌, refl, ◌∙◌}
 use mathlib.Core.Bool.{Bool, true, false, cond}
 use mathlib.Core.List.{map}
 use mathlib.Core.Option.{some, none}
@@ -7,7 +7,6 @@ use Prim.Native.Nat.{ℕ, ◌+◌, ◌≤◌, min}
 use native.Mathlib.Omega.{arith}
 use borrow.Author.Tests.{le-leb}
 use Rattle.blocks.specs.PointStores.{point_code}
-use Rattle.lists.specs.Lists.{tab}
 use Rattle.lists.proofs.Tables.{tab_same}
 use Rattle.lists.proofs.Ranges.{map_tab}
 use Rattle.text.specs.Fields.{field_at}

@@ -18,7 +18,7 @@ use Rattle.calendar.proofs.Laws.{axis_range, date_day, winter_day_place, positio
 use Rattle.text.specs.Fields.{field_at}
 use Rattle.meaning.specs.Filing.{Kind}
 use Rattle.meaning.specs.Line.{Line, C, X, D, P, tag_of, year_on, month_on, day_on, number_at, winter_on, kind_of, key_of, most_daily}
-use Rattle.meaning.specs.Refusals.{refusal, tooMany, holds}
+use Rattle.meaning.specs.Refusals.{refusal, too_many, holds}
 use Rattle.meaning.specs.Blocks.{is_near, near_start, far_start, slots_start, slot_at}
 use Rattle.meaning.specs.Record.{Rec, in_state, site_of_rec, history_of_site, history_of_rec, axis_of_rec, before_of}
 use Rattle.meaning.specs.Calls.{rec_after, blocks_after, last_dates_after, tallies_after, one_more, position_on, point_codes, profile_values}
@@ -74,7 +74,7 @@ module _ (s : Rec) (l : Line) (e : refusal (before_of s) l ≡ none) where
   unfolding before_of axis_of_rec holds
   reading_place u =
       let a = accepted_x (before_of s) l e u in
-      (position_below a.year a.date, leb-false 600 s.readings (is_false (leb 600 s.readings) (rw u at (passed (before_of s) l e tooMany))))
+      (position_below a.year a.date, leb-false 600 s.readings (is_false (leb 600 s.readings) (rw u at (passed (before_of s) l e too_many))))
 
   -- the position, computed by the checks from the site of the record
   pub position_d : tag_of l ≡ D → position_of (axis_years (history_years s.site.al s.site.filiere)) (year_on l) (month_on l) (day_on l) ≡ position_on (axis_of_rec s) l

@@ -7,7 +7,6 @@ use native.Mathlib.Omega.{arith}
 use lib.Dec.{T, eqb, leb, ltb, leb→le, eqb→eq}
 use lib.ListN.{get_or}
 use Rattle.lists.specs.Lists.{all_at}
-use Rattle.calendar.specs.declared.Years.{Years}
 use Rattle.calendar.specs.Dates.{leap, all_winter_dates, all_dates}
 use Rattle.calendar.specs.Spans.{among, is_known, history_years, axis_years}
 use Rattle.calendar.proofs.Laws.{among_words, has_history, history_bounds, history_short, axis_range}

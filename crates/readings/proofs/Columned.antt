@@ -7,11 +7,10 @@ use lib.ListN.{length, get_or}
 use Rattle.lists.specs.Lists.{tab}
 use Rattle.lists.proofs.Laws.{get_d_tab0}
 use Rattle.lists.proofs.Tables.{tab_same}
-use Rattle.meaning.specs.Filing as meant
 use Rattle.meaning.specs.Blocks.{readings_size, fresh_reading, readings_of}
 use Rattle.readings.specs.declared.Reading.{Reading}
 use Rattle.readings.specs.Readings.{readings_view, positions_of, counts_of, letters_of}
-use Rattle.readings.specs.Columns.{reading_in, readings_in, lent_blocks, lent_blocks_in, Columned}
+use Rattle.readings.specs.Columns.{reading_in, readings_in, lent_blocks_in, Columned}
 use Rattle.readings.proofs.Laws.{columns_seen, seen_length, tab_all}
 
 -- the first of them are the first of the list

@@ -12,7 +12,7 @@ use Rattle.lists.specs.Lists.{tab}
 use Rattle.lists.proofs.Laws.{length_tab, get_d_tab0}
 use Rattle.lists.proofs.Tables.{tab_same}
 use Rattle.meaning.specs.Filing as meant
-use Rattle.meaning.specs.Filing.{real, corrected, estimated, noKind, reading}
+use Rattle.meaning.specs.Filing.{real, corrected, estimated, no_kind, reading}
 use Rattle.meaning.specs.Line.{kind_of_letter, is_kind}
 use Rattle.meaning.specs.Blocks.{letter_of_kind}
 use Rattle.readings.specs.declared.Kind.{Kind}
@@ -97,7 +97,7 @@ pub kind_shown : (k : meant.Kind) → T (is_kind k) → kind_view (kind_repr k) 
 kind_shown real t = refl
 kind_shown corrected t = refl
 kind_shown estimated t = refl
-kind_shown noKind t = absurd t
+kind_shown no_kind t = absurd t
 
 -- ---- lists with the same view are the same
 back : (k : Kind) → kind_repr (kind_view k) ≡ k

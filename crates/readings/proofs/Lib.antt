@@ -1,10 +1,5 @@
 pub mod Laws
-pub mod ClosedBorrows
-pub mod WalkEnds
 pub mod ColumnLengths
 pub mod Columned
-pub mod ReadingLayout
 pub mod FreshSoFar
 pub mod ColumnsSoFar
-pub mod LocalArrays
-pub mod LentArrays

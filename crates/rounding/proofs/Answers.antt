@@ -6,13 +6,13 @@ use native.Mathlib.Omega.{arith}
 use lib.Dec.{ltb}
 use borrow.Author.Tests.{lt-ltb, le-ltb, ltb-true, ltb-false}
 use Rattle.rounding.specs.Points.{exceeds, most_point}
-use Rattle.rounding.specs.Answers.{power_of, point_of, point_where, point_answer_by, milliwatts, refusal}
+use Rattle.rounding.specs.Answers.{in_mw, point_of, point_where, point_answer_by, milliwatts, refusal}
 use Rattle.rounding.specs.declared.Power.{Power}
 use Rattle.rounding.specs.declared.Point.{Point}
 use Rattle.rounding.specs.declared.Point.TheVariants.{Is, Exceeds}
 
 -- up to the limit, itself included, a number is a point
-pub point_is : (n : ℕ) → n ≤ most_point → point_of n ≡ Is (power_of n)
+pub point_is : (n : ℕ) → n ≤ most_point → point_of n ≡ Is (in_mw n)
 unfolding point_of point_where exceeds
 point_is n h = simp (le-ltb most_point n h)
 
@@ -51,7 +51,7 @@ is_over n e = by (ltb most_point n) refl e
 -- no two answers say the same
 pub said_same : (a b : Point) → point_answer_by a ≡ point_answer_by b → a ≡ b
 unfolding point_answer_by
-said_same (Is p) (Is q) e = let v : p.0 ≡ q.0 = cc in λ i. Is (power_of (v i))
+said_same (Is p) (Is q) e = let v : p.0 ≡ q.0 = cc in λ i. Is (in_mw (v i))
 said_same (Is p) Exceeds e = cc
 said_same Exceeds (Is q) e = cc
 said_same Exceeds Exceeds e = refl

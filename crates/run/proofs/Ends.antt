@@ -13,7 +13,6 @@ use Rattle.meaning.specs.Blocks.{Blocks}
 use Rattle.meaning.specs.Record.{Rec}
 use Rattle.meaning.specs.Calls.{Out, out, line_of, close_of}
 use Rattle.pieces.specs.Run.{run_of, is_final, close_unless_final, last_line, finished}
-use Rattle.close.specs.declared.outcome.file.YearRow.{YearRow}
 use Rattle.close.specs.FileOutcomes.{years_repr}
 use Rattle.answers.specs.declared.Answer.{Answer}
 use Rattle.answers.specs.declared.Answer.TheVariants.{Accepted, Refused, Reported}

@@ -2,16 +2,16 @@
 use mathlib.Core.Path.{◌≡◌, refl, ap, sym, ◌∙◌}
 use mathlib.Core.Bool.{Bool, true, false, cond}
 use mathlib.Core.List.{List, [], ◌∷◌, ◌++◌, append_assoc, append-nil, map}
-use Prim.Native.Nat.{ℕ, suc, ◌+◌, ◌^◌, ◌≤◌, ◌<◌}
+use Prim.Native.Nat.{ℕ, ◌+◌, ◌^◌, ◌≤◌, ◌<◌}
 use native.Mathlib.Numerals.{add-one}
 use native.Mathlib.Omega.{arith}
 use lib.Dec.{eqb}
-use lib.ListN.{length, take, drop, get_or, length-append, take-append-drop}
+use lib.ListN.{length, take, get_or, length-append, take-append-drop}
 use lib.Seq.{take-suc, take_all}
 use borrow.Author.Tests.{eq-eqb, ne_eqb}
 use Rattle.lists.specs.Lists.{flat}
 use Rattle.text.proofs.Written.{written_fits, take_written}
-use Rattle.meaning.specs.Text.{tabbed, level_text, year_text}
+use Rattle.meaning.specs.Text.{level_text, year_text}
 use Rattle.sheet.specs.Put.{Put}
 use Rattle.sheet.proofs.Chains.{tabbed_length}
 use Rattle.close.specs.declared.outcome.file.YearRow.{YearRow}

@@ -2,7 +2,7 @@
 use mathlib.Core.Path.{◌≡◌, refl, ap}
 use mathlib.Core.Bool.{Bool, true, false}
 use mathlib.Core.List.{List, [], ◌∷◌, ◌++◌, map}
-use Prim.Native.Nat.{ℕ, zero, suc, ◌+◌, ◌≤◌}
+use Prim.Native.Nat.{ℕ, zero, suc, ◌≤◌}
 use native.Mathlib.Omega.{arith}
 use lib.Dec.{T}
 use lib.ListN.{length, get_or}
@@ -13,8 +13,7 @@ use Rattle.calendar.specs.Spans.{is_known, history_years}
 use Rattle.calendar.proofs.Laws.{history_bounds, history_short, no_history}
 use Rattle.meaning.specs.Filing.{Filing, history_of, years_in, history_list}
 use Rattle.meaning.specs.Text.{year_line}
-use Rattle.meaning.specs.Level.{YearReport, year_report, Report, report_of}
-use Rattle.close.specs.declared.outcome.file.YearRow.{YearRow}
+use Rattle.meaning.specs.Level.{YearReport, year_report, report_of}
 use Rattle.close.specs.FileOutcomes.{no_year, year_repr, years_repr}
 use Rattle.sheet.specs.SheetTexts.{row_text, rows_text}
 use Rattle.sheet.proofs.Rows.{row_none, row_some}

@@ -2,7 +2,7 @@
 use mathlib.Core.Path.{◌≡◌, refl, ap}
 use mathlib.Core.Logic.{⊎_elim}
 use mathlib.Core.Bool.{Bool, true, false, ◌&&◌, ◌||◌}
-use mathlib.Core.List.{List, map}
+use mathlib.Core.List.{List}
 use mathlib.Core.Option.{Option, some, none}
 use Prim.Native.Nat.{ℕ, ◌+◌, ◌-◌, ◌*◌, ◌≤◌, ◌<◌}
 use native.Mathlib.Nat.{le_trans}
@@ -10,7 +10,7 @@ use native.Mathlib.Omega.{arith}
 use lib.Dec.{T, eqb, leb, ltb, leb→le}
 use lib.ListN.{length, get_or, get_or-eq_default}
 use borrow.Author.Tests.{ltb-true, ltb-false}
-use Rattle.lists.specs.Lists.{all_at, first_of, tab, range, sum}
+use Rattle.lists.specs.Lists.{first_of, tab, range, sum}
 use Rattle.lists.proofs.Laws.{length_tab, get_d_tab0}
 use Rattle.lists.proofs.Reflect.{of_eq, of_or}
 use Rattle.lists.proofs.Snoc.{all_at_at}
@@ -27,7 +27,7 @@ use Rattle.meaning.specs.Record.{history_of_site, readings_fit, daily_fits}
 use Rattle.readings.specs.Columns.{Columned}
 use Rattle.validity.specs.Columns.{Rising}
 use Rattle.validity.specs.Days.{is_around, around, energy_in, sum_between, total_in, of_interval, energy_at, total_at, energies_of, totals_of}
-use Rattle.validity.proofs.Filed.{Fits, fits}
+use Rattle.validity.proofs.Filed.{fits}
 
 -- a bound on each place of a table bounds each element, and the default past its end
 table_most : (n m : ℕ) (f : ℕ → ℕ) → ((p : ℕ) → f p ≤ m) → (p : ℕ) → get_or (tab n 0 f) p 0 ≤ m

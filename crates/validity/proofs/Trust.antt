@@ -5,7 +5,7 @@ use mathlib.Core.List.{List}
 use Prim.Native.Nat.{ℕ, ◌<◌}
 use lib.Dec.{eqb}
 use lib.ListN.{length, get_or}
-use Rattle.meaning.specs.Filing.{real, corrected, estimated, noKind, is_trusted}
+use Rattle.meaning.specs.Filing.{real, corrected, estimated, no_kind, is_trusted}
 use Rattle.meaning.specs.Line.{kind_of_letter}
 use Rattle.validity.specs.Columns.{is_trusted_at}
 use Rattle.lists.proofs.Ranges.{get_d_any}
@@ -14,7 +14,7 @@ of_letter : (b : ℕ) → is_trusted (kind_of_letter b) ≡ (eqb b 82 || eqb b 6
 unfolding kind_of_letter
 of_letter b = go (eqb b 82) (eqb b 67) (eqb b 69)
   where
-    go : (r c e : Bool) → is_trusted (cond r real (cond c corrected (cond e estimated noKind))) ≡ (r || c)
+    go : (r c e : Bool) → is_trusted (cond r real (cond c corrected (cond e estimated no_kind))) ≡ (r || c)
     go true c e = refl
     go false true e = refl
     go false false true = refl

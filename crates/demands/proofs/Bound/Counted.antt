@@ -14,9 +14,9 @@ use Rattle.lists.proofs.Tests.{and_right}
 use Rattle.calendar.specs.Spans.{is_known}
 use Rattle.note.specs.Peaks.{peak_days, peak_count}
 use Rattle.note.proofs.PeakDays.{fewest_days}
-use Rattle.meaning.specs.Filing.{Filing, Meter, noMeter, curveMeter, indexMeter, history_list}
+use Rattle.meaning.specs.Filing.{Filing, Meter, no_meter, curve_meter, index_meter, history_list}
 use Rattle.meaning.specs.Validity.{half_hours, expected_points, present_points, enough, curve_valid}
-use Rattle.meaning.specs.Cases.{Case, caseM, case1, case2, case3, case4, caseP, case5, case6, Mark, curve_case, index_case, case_by, case_of, mark_of, marks_of}
+use Rattle.meaning.specs.Cases.{Case, case_m, case1, case2, case3, case4, case_p, case5, case6, Mark, curve_case, index_case, case_by, case_of, mark_of, marks_of}
 use Rattle.meaning.specs.Points.{Source, missing, own, from_donors, from_default, CurvePlace, place_of, point_at, rated_by, applied_rate, rounded_point, source_by, source_at, read_at, read_by, own_of, default_at}
 use Rattle.meaning.specs.Level.{points_in, counted}
 use Rattle.demands.specs.Exact.{exactly, exact_by, exact_at, exact_points}
@@ -37,54 +37,54 @@ exact_counted qs = same_present exact_at point_at (λ q. same_there q.source q.r
 
 -- ---- a year that has points: one that is measured with a valid curve, profiled or default
 abbrev Shows : Case → Bool → Type 0
-Shows caseM c = T c
+Shows case_m c = T c
 Shows case1 c = Unit {0}
 Shows case2 c = ⊥
 Shows case3 c = ⊥
 Shows case4 c = Unit {0}
-Shows caseP c = Unit {0}
+Shows case_p c = Unit {0}
 Shows case5 c = ⊥
 Shows case6 c = Unit {0}
 
-curve_shows : (c i : Bool) (k : Case) → T c → Shows (cond c caseM (cond i case1 k)) c
+curve_shows : (c i : Bool) (k : Case) → T c → Shows (cond c case_m (cond i case1 k)) c
 curve_shows true i k t = tt
 curve_shows false i k t = absurd t
 
-index_shows : (c i : Bool) (k : Case) → T i → Shows (cond c caseM (cond i case1 k)) c
+index_shows : (c i : Bool) (k : Case) → T i → Shows (cond c case_m (cond i case1 k)) c
 index_shows true i k t = tt
 index_shows false true k t = tt
 index_shows false false k t = absurd t
 
-default_shows : (c i : Bool) → Shows (cond c caseM (cond i case1 case4)) c
+default_shows : (c i : Bool) → Shows (cond c case_m (cond i case1 case4)) c
 default_shows true i = tt
 default_shows false true = tt
 default_shows false false = tt
 
-profiled_shows : (c i : Bool) (k : Case) → T i → Shows (cond i caseP k) c
+profiled_shows : (c i : Bool) (k : Case) → T i → Shows (cond i case_p k) c
 profiled_shows c true k t = tt
 profiled_shows c false k t = absurd t
 
-six_shows : (c i : Bool) → Shows (cond i caseP case6) c
+six_shows : (c i : Bool) → Shows (cond i case_p case6) c
 six_shows c true = tt
 six_shows c false = tt
 
 -- among some years there is one: a valid curve, else a valid index, else any
 in_curves : (ks : List Mark) → 0 < length ks → (a b : Bool) → any (λ k. k.curve) ks ≡ a → any (λ k. k.index) ks ≡ b
-    → Some (λ k. Shows (cond k.curve caseM (cond k.index case1 (cond a case2 (cond b case3 case4)))) k.curve) ks
+    → Some (λ k. Shows (cond k.curve case_m (cond k.index case1 (cond a case2 (cond b case3 case4)))) k.curve) ks
 in_curves ks n true b e f = some_map (λ k t. curve_shows k.curve k.index case2 t) (any_some (λ k. k.curve) ks (rw e tt))
 in_curves ks n false true e f = some_map (λ k t. index_shows k.curve k.index case3 t) (any_some (λ k. k.index) ks (rw f tt))
 in_curves ks n false false e f = some_first ks n (λ k. default_shows k.curve k.index)
 
 in_indexes : (ks : List Mark) → 0 < length ks → (b : Bool) → any (λ k. k.index) ks ≡ b
-    → Some (λ k. Shows (cond k.index caseP (cond b case5 case6)) k.curve) ks
+    → Some (λ k. Shows (cond k.index case_p (cond b case5 case6)) k.curve) ks
 in_indexes ks n true f = some_map (λ k t. profiled_shows k.curve k.index case5 t) (any_some (λ k. k.index) ks (rw f tt))
 in_indexes ks n false f = some_first ks n (λ k. six_shows k.curve k.index)
 
 some_shows : (m : Meter) (ks : List Mark) → 0 < length ks → Some (λ k. Shows (case_by m ks k) k.curve) ks
 unfolding case_by curve_case index_case
-some_shows curveMeter ks n = in_curves ks n (any (λ k. k.curve) ks) (any (λ k. k.index) ks) refl refl
-some_shows indexMeter ks n = in_indexes ks n (any (λ k. k.index) ks) refl
-some_shows noMeter ks n = in_indexes ks n (any (λ k. k.index) ks) refl
+some_shows curve_meter ks n = in_curves ks n (any (λ k. k.curve) ks) (any (λ k. k.index) ks) refl refl
+some_shows index_meter ks n = in_indexes ks n (any (λ k. k.index) ks) refl
+some_shows no_meter ks n = in_indexes ks n (any (λ k. k.index) ks) refl
 
 -- ---- its points
 -- a place with a point
@@ -103,7 +103,7 @@ unfolding read_by own_of rounded_point
 read_there none t = t
 read_there (some v) t = tt
 
-measured : (F : Filing) (y : ℕ) → InHistory F y → T (curve_valid F y) → Seen F caseM y
+measured : (F : Filing) (y : ℕ) → InHistory F y → T (curve_valid F y) → Seen F case_m y
 unfolding present_points source_by read_at
 measured F y t v =
     some_map (λ w r. some_map (λ h p. read_there (F.point y w h) p) (some_counted (λ h. is_some (F.point y w h)) (range 0 half_hours) r))
@@ -112,12 +112,12 @@ measured F y t v =
 
 seen : (F : Filing) (y : ℕ) → InHistory F y → (k : Case) → Shows k (curve_valid F y) → Seen F k y
 unfolding source_by default_at rounded_point
-seen F y t caseM s = measured F y t s
+seen F y t case_m s = measured F y t s
 seen F y t case1 s = some_time F y t (λ w h. tt)
 seen F y t case2 s = absurd s
 seen F y t case3 s = absurd s
 seen F y t case4 s = some_time F y t (λ w h. tt)
-seen F y t caseP s = some_time F y t (λ w h. tt)
+seen F y t case_p s = some_time F y t (λ w h. tt)
 seen F y t case5 s = absurd s
 seen F y t case6 s = some_time F y t (λ w h. tt)
 

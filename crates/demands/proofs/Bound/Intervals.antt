@@ -18,17 +18,17 @@ use Rattle.calendar.proofs.Laws.{WinterPlaceHasDay, winter_place_day, no_winter_
 use Rattle.meaning.specs.Filing.{Filing, axis_of, year_of, history_list}
 use Rattle.meaning.specs.Validity.{Interval, intervals, days_of, has_day, total_of, is_winter_day, overlaps_winter, winter_days, is_covered, is_sound, index_valid}
 use Rattle.meaning.specs.Points.{position_at, interval_at}
-use Rattle.meaning.specs.Closing.{zeroTotal, close_holds, close_order, closing_refusal, some_winter_interval}
+use Rattle.meaning.specs.Closing.{zero_total, close_holds, close_order, closing_refusal, some_winter_interval}
 use Rattle.meaning.proofs.Passed.{each_head, each_tail}
 use Rattle.demands.proofs.Bound.Years.{InHistory, in_history, axis_before}
 
 -- 17 does not hold
-no_zero_total : (F : Filing) → closing_refusal F ≡ none → T (not (close_holds zeroTotal F))
+no_zero_total : (F : Filing) → closing_refusal F ≡ none → T (not (close_holds zero_total F))
 unfolding closing_refusal close_order
 no_zero_total F e = each_head (each_tail (each_tail (each_tail (first_none (λ k. close_holds k F) close_order e))))
 
 -- so no interval that overlaps the winter of a valid index year has only daily sums of 0
-not_zero : (F : Filing) (y : ℕ) → InHistory F y → T (not (close_holds zeroTotal F)) → T (index_valid F y) → (v : Interval) → In v (intervals F) → T (overlaps_winter F y v)
+not_zero : (F : Filing) (y : ℕ) → InHistory F y → T (not (close_holds zero_total F)) → T (index_valid F y) → (v : Interval) → In v (intervals F) → T (overlaps_winter F y v)
     → 0 < total_of F v
 unfolding close_holds some_winter_interval
 not_zero F y t n h v i o = go (total_of F v) refl

@@ -154,7 +154,7 @@ near_full h rates t n q l g =
     let k = near_unrated h rates t n q l g in
     rw (half_up_whole n 1000 (omega arith)) (record { positive = omega (arith, k.positive); above = omega (arith, k.above); below = omega (arith, k.below) })
 
--- ---- the level: C is at most 100 hundredths, the mean keeps the error, and whole watts bring 500 power_of
+-- ---- the level: C is at most 100 hundredths, the mean keeps the error, and whole watts bring 500 mW
 level_above : (t c k e s x : ℕ) (q : Fraction)
     → c ≤ 100
     → 2 * t * s * q.den ≤ 2 * t * q.num + k * e * q.den

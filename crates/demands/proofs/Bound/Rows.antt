@@ -6,7 +6,7 @@ use native.Mathlib.Omega.{arith}
 use Rattle.rounding.specs.Points.{over}
 use Rattle.demands.specs.Demands.{bound_over, Within}
 
--- halves before the rate, whether rates round, T, and the bound: whole power_of and halves of one
+-- halves before the rate, whether rates round, T, and the bound: whole mW and halves of one
 pub record Row : Type 0 where
   pub halves : ℕ
   pub rates : ℕ
@@ -34,7 +34,7 @@ pub rows : map (λ (r : Row). bound_over r.halves r.rates r.t) table ≡ map (λ
 unfolding table row bound_over
 rows = refl
 
--- what it says of n watts and a fraction that is q whole power_of, at T 1000 and at T 10
+-- what it says of n watts and a fraction that is q whole mW, at T 1000 and at T 10
 pub at_1000 : (n q : ℕ) → Within 3 1 1000 n (over q 1) → (1000 * n ≤ q + 502) × (q ≤ 1000 * n + 502)
 unfolding bound_over
 at_1000 n q w = (omega (arith, w.above), omega (arith, w.below))

@@ -1,4 +1,4 @@
--- How far a point lies from its fraction before its rate, by the case of its year, in halves of a power_of.
+-- How far a point lies from its fraction before its rate, by the case of its year, in halves of a mW.
 use mathlib.Core.Path.{◌≡◌}
 use mathlib.Core.Bool.{Bool, true, false, ◌&&◌, cond}
 use mathlib.Core.List.{List, [], ◌∷◌, map}
@@ -14,9 +14,9 @@ use Rattle.lists.proofs.Tests.{and_left, and_right}
 use Rattle.calendar.specs.Places.{has_winter_date}
 use Rattle.rounding.specs.Points.{Fraction, rounded, profiled, rebuilt, by_default}
 use Rattle.rounding.proofs.Laws.{half_up_whole}
-use Rattle.meaning.specs.Filing.{Filing, Meter, noMeter, curveMeter, indexMeter, history_of}
+use Rattle.meaning.specs.Filing.{Filing, Meter, no_meter, curve_meter, index_meter, history_of}
 use Rattle.meaning.specs.Validity.{energy_of, total_of, curve_valid, index_valid}
-use Rattle.meaning.specs.Cases.{Case, caseM, case1, case2, case3, case4, caseP, case5, case6, Mark, curve_case, index_case, case_by, case_of, mark_of, marks_of}
+use Rattle.meaning.specs.Cases.{Case, case_m, case1, case2, case3, case4, case_p, case5, case6, Mark, curve_case, index_case, case_by, case_of, mark_of, marks_of}
 use Rattle.meaning.specs.Points.{Origin, as_read, by_profile, fraction_of, Donor, profiled_in, profiled_at, read_by, read_at, donor_place, donor_of, curve_donor, index_donor, curve_donors, index_donors, own_of, rebuilt_by, history_cas, default_at, source_by, source_at, rounded_origin, donor_cas, donor_points, rounded_point}
 use Rattle.demands.specs.Exact.{total, exactly}
 use Rattle.meaning.specs.Closing.{closing_refusal}
@@ -75,45 +75,45 @@ rebuilt_agrees h ca (d ∷ ds) r =
     (donors_positive r) (donors_weigh r) (donors_near r)
 
 -- ---- by case
--- the halves of a power_of that a point may be off before its rate
+-- the halves of a mW that a point may be off before its rate
 unfoldable pub halves_of : Case → ℕ
-halves_of caseM = 0
+halves_of case_m = 0
 halves_of case1 = 1
 halves_of case2 = 1
 halves_of case3 = 3
 halves_of case4 = 1
-halves_of caseP = 1
+halves_of case_p = 1
 halves_of case5 = 3
 halves_of case6 = 1
 
 -- a year of case 1 or P has a valid index
 abbrev Fits : Case → Bool → Type 0
-Fits caseM b = Unit {0}
+Fits case_m b = Unit {0}
 Fits case1 b = T b
 Fits case2 b = Unit {0}
 Fits case3 b = Unit {0}
 Fits case4 b = Unit {0}
-Fits caseP b = T b
+Fits case_p b = T b
 Fits case5 b = Unit {0}
 Fits case6 b = Unit {0}
 
-curve_fits : (a b c d : Bool) → Fits (cond a caseM (cond b case1 (cond c case2 (cond d case3 case4)))) b
+curve_fits : (a b c d : Bool) → Fits (cond a case_m (cond b case1 (cond c case2 (cond d case3 case4)))) b
 curve_fits true b c d = tt
 curve_fits false true c d = tt
 curve_fits false false true d = tt
 curve_fits false false false true = tt
 curve_fits false false false false = tt
 
-index_fits : (b c : Bool) → Fits (cond b caseP (cond c case5 case6)) b
+index_fits : (b c : Bool) → Fits (cond b case_p (cond c case5 case6)) b
 index_fits true c = tt
 index_fits false true = tt
 index_fits false false = tt
 
 by_fits : (m : Meter) (ks : List Mark) (k : Mark) → Fits (case_by m ks k) k.index
 unfolding case_by curve_case index_case
-by_fits curveMeter ks k = curve_fits k.curve k.index (any (λ j. j.curve) ks) (any (λ j. j.index) ks)
-by_fits indexMeter ks k = index_fits k.index (any (λ j. j.index) ks)
-by_fits noMeter ks k = index_fits k.index (any (λ j. j.index) ks)
+by_fits curve_meter ks k = curve_fits k.curve k.index (any (λ j. j.curve) ks) (any (λ j. j.index) ks)
+by_fits index_meter ks k = index_fits k.index (any (λ j. j.index) ks)
+by_fits no_meter ks k = index_fits k.index (any (λ j. j.index) ks)
 
 case_fits : (F : Filing) (y : ℕ) → Fits (case_of F y) (index_valid F y)
 unfolding case_of mark_of
@@ -171,12 +171,12 @@ module _ (F : Filing) (s : Sane F) (ok : closing_refusal F ≡ none) where
   source_agrees : (k : Case) (y w h : ℕ) → InHistory F y → T (has_winter_date y w) → Fits k (index_valid F y)
       → Agree (halves_of k) 2 (rounded_point (source_by k F y w h)) (exactly (source_by k F y w h))
   unfolding source_by read_at halves_of rounded_point exactly
-  source_agrees caseM y w h t dated f = read_agrees (F.point y w h)
+  source_agrees case_m y w h t dated f = read_agrees (F.point y w h)
   source_agrees case1 y w h t dated f = profiled_close y w h t dated f
   source_agrees case2 y w h t dated f = rebuilt_agrees 0 (F.ca y) (curve_donors F w h) (curve_fine y w h t)
   source_agrees case3 y w h t dated f = rebuilt_agrees 1 (F.ca y) (index_donors F w h) (index_fine y w h t)
   source_agrees case4 y w h t dated f = default_agrees y w h
-  source_agrees caseP y w h t dated f = profiled_close y w h t dated f
+  source_agrees case_p y w h t dated f = profiled_close y w h t dated f
   source_agrees case5 y w h t dated f = rebuilt_agrees 1 (F.ca y) (index_donors F w h) (index_fine y w h t)
   source_agrees case6 y w h t dated f = default_agrees y w h
 

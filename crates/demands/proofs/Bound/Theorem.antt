@@ -1,4 +1,4 @@
--- Demand 3 over one filing: 1000 times the level lies within 500½ + 1500 / T of the exact fraction, in power_of; and nearer where less is rounded.
+-- Demand 3 over one filing: 1000 times the level lies within 500½ + 1500 / T of the exact fraction, in mW; and nearer where less is rounded.
 use mathlib.Core.Path.{◌≡◌, refl, ap}
 use mathlib.Core.Logic.{◌⊎◌, inl, inr}
 use mathlib.Core.Option.{Option, some, none}
@@ -11,7 +11,7 @@ use Rattle.lists.proofs.Sums.{Held}
 use Rattle.lists.proofs.Tables.{each_both}
 use Rattle.note.proofs.Factors.{c_most}
 use Rattle.meaning.specs.Filing.{Filing}
-use Rattle.meaning.specs.Cases.{Case, caseM, case1, case2, case3, case4, caseP, case5, case6, case_of}
+use Rattle.meaning.specs.Cases.{Case, case_m, case1, case2, case3, case4, case_p, case5, case6, case_of}
 use Rattle.meaning.specs.Points.{CurvePlace, place_of, all_places, source_at, rounded_point, applied_rate, with_rate, rated_by, point_at}
 use Rattle.meaning.specs.Level.{points_in, counted, coefficient_of, ncc, lowest_rate, report_of}
 use Rattle.demands.specs.Exact.{times, divided_by, total, exactly, exact_rate, exact_by, exact_at, exact_points, exact_fraction}
@@ -104,23 +104,23 @@ off_by halves F s ok h =
 
 three_halves : (k : Case) → halves_of k ≤ 3
 unfolding halves_of
-three_halves caseM = omega arith
+three_halves case_m = omega arith
 three_halves case1 = omega arith
 three_halves case2 = omega arith
 three_halves case3 = omega arith
 three_halves case4 = omega arith
-three_halves caseP = omega arith
+three_halves case_p = omega arith
 three_halves case5 = omega arith
 three_halves case6 = omega arith
 
 one_half : (k : Case) → (k ≡ case3 → ⊥) → (k ≡ case5 → ⊥) → halves_of k ≤ 1
 unfolding halves_of
-one_half caseM a b = omega arith
+one_half case_m a b = omega arith
 one_half case1 a b = omega arith
 one_half case2 a b = omega arith
 one_half case3 a b = absurd (a refl)
 one_half case4 a b = omega arith
-one_half caseP a b = omega arith
+one_half case_p a b = omega arith
 one_half case5 a b = absurd (b refl)
 one_half case6 a b = omega arith
 
@@ -141,7 +141,7 @@ closer F s ok h = within_by 1 1 F s (off_by 1 F s ok (λ y t. one_half (case_of 
 
 -- 500 where every year is measured and no rate is below 1000
 pub closest : (F : Filing) → Sane F → closing_refusal F ≡ none
-    → ((y : ℕ) → InHistory F y → case_of F y ≡ caseM)
+    → ((y : ℕ) → InHistory F y → case_of F y ≡ case_m)
     → ((y r : ℕ) → InHistory F y → applied_rate F y ≡ some r → 1000 ≤ r)
     → Within 0 0 (lowest_rate F) (ncc F) (exact_fraction F)
 unfolding halves_of applied_rate

@@ -10,14 +10,14 @@ use Rattle.lists.proofs.Tests.{and_made}
 use Rattle.calendar.specs.Spans.{years, is_known, history_years, axis_years}
 use Rattle.meaning.specs.Filing.{no_site}
 use Rattle.meaning.specs.Line.{Line, S, tag_of, site_on, is_meter, most_power}
-use Rattle.meaning.specs.Refusals.{misplaced, tooSoon, holds, refusal, is_too_soon}
+use Rattle.meaning.specs.Refusals.{misplaced, too_soon, holds, refusal, is_too_soon}
 use Rattle.meaning.specs.Record.{Rec, is_taken, site_of_rec, history_of_site, history_of_rec, axis_of_rec, is_within, meter_fits, site_fits, before_of}
 use Rattle.meaning.specs.Calls.{last_dates_after, tallies_after, rec_after}
 use Rattle.meaning.proofs.Passed.{passed}
 use Rattle.meaning.proofs.Accepted.{SiteLine, accepted_s}
 use Rattle.demands.proofs.Held.Counts.{dates_by, winter_dates_by, over, marks, lines_by}
 use Rattle.demands.proofs.Held.Order.{first_line}
-use Rattle.demands.proofs.Held.Ranges.{no_date, no_last_year, no_numbers}
+use Rattle.demands.proofs.Held.Ranges.{no_date_lem, no_last_year, no_numbers}
 use Rattle.demands.proofs.Held.Fits.{LastsIn, Kept}
 
 -- ---- before S
@@ -48,17 +48,17 @@ module _ (s : Rec) (l : Line) (e : refusal (before_of s) l ≡ none) (u : tag_of
 
   timely : T (not (is_too_soon (site_on l).al (site_on l).filiere))
   unfolding holds
-  timely = rw u at (passed (before_of s) l e tooSoon)
+  timely = rw u at (passed (before_of s) l e too_soon)
 
   lasts_first : LastsIn (history_of_rec (rec_after S l s)) (rec_after S l s).lasts
   unfolding rec_after last_dates_after axis_years
   lasts_first =
       let none_yet : LastsIn (years 0 0) s.lasts = rw (no_span s not_taken) at k.lasts in
       record {
-        c = no_date true true _ s.lasts.c none_yet.c;
-        x = no_date false false _ s.lasts.x none_yet.x;
-        d = no_date false false _ s.lasts.d none_yet.d;
-        p = no_date true true _ s.lasts.p none_yet.p;
+        c = no_date_lem true true _ s.lasts.c none_yet.c;
+        x = no_date_lem false false _ s.lasts.x none_yet.x;
+        d = no_date_lem false false _ s.lasts.d none_yet.d;
+        p = no_date_lem true true _ s.lasts.p none_yet.p;
         b = no_last_year _ s.lasts.b none_yet.b;
         r = no_last_year _ s.lasts.r none_yet.r;
       }

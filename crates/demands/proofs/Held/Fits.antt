@@ -1,5 +1,4 @@
 -- The record's ranges that refusal 1 checks, part by part, and what an accepted line keeps of a record.
-use mathlib.Core.Path.{◌≡◌}
 use mathlib.Core.Bool.{true, false, not, ◌&&◌, ◌||◌}
 use Prim.Native.Nat.{◌≤◌}
 use native.Mathlib.Omega.{arith}

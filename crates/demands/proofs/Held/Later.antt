@@ -10,7 +10,7 @@ use Rattle.calendar.specs.declared.Years.{Years}
 use Rattle.calendar.specs.Spans.{among}
 use Rattle.meaning.specs.Filing.{Site, no_site}
 use Rattle.meaning.specs.Line.{Line, S, C, X, D, P, B, R, rank, is, tag_of, number_at, year_on, month_on, day_on, key_of, site_on, most_index}
-use Rattle.meaning.specs.Refusals.{misplaced, tooMany, holds, refusal, most_readings}
+use Rattle.meaning.specs.Refusals.{misplaced, too_many, holds, refusal, most_readings}
 use Rattle.meaning.specs.Record.{Rec, is_taken, site_of_rec, history_of_rec, axis_of_rec, is_within, site_fits, date_fits, year_fits, misplaced_by, before_of}
 use Rattle.meaning.specs.Calls.{last_dates_after, tallies_after, rec_after}
 use Rattle.meaning.proofs.Passed.{passed}
@@ -75,7 +75,7 @@ module _ (s : Rec) (l : Line) (e : refusal (before_of s) l ≡ none) (n : T (not
 
   many : T (not (is X (tag_of l) && leb most_readings s.readings))
   unfolding holds before_of
-  many = passed (before_of s) l e tooMany
+  many = passed (before_of s) l e too_many
 
   lasts_later : LastsIn (history_of_rec s) (last_dates_after (tag_of l) l s.lasts)
   unfolding last_dates_after key_of axis_of_rec

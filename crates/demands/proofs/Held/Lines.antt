@@ -11,7 +11,7 @@ use Rattle.calendar.proofs.Laws.Days.{date_day}
 use Rattle.calendar.proofs.Laws.Positions.{among_words}
 use Rattle.text.specs.Fields.{field_at}
 use Rattle.meaning.specs.Line.{Line, Tag, C, X, D, P, B, R, is, tag_of, most_index, most_daily, most_profile, number_at, year_on, month_on, day_on, value_at, point_of, is_rising, kind_of, is_kind}
-use Rattle.meaning.specs.Refusals.{Before, tooMany, holds, most_readings}
+use Rattle.meaning.specs.Refusals.{Before, too_many, holds, most_readings}
 use Rattle.meaning.specs.File.{axis_in, before_in, refusal_at}
 use Rattle.meaning.specs.Record.{Rec, history_of_site, before_of}
 use Rattle.meaning.proofs.Passed.{passed}
@@ -86,7 +86,7 @@ module _ (ls : List Line) (l : Line) (e : refusal_at ls l ≡ none) where
   -- ---- one reading more has room
   pub has_room : (s : Rec) → HeldRec ls s → T (is X (tag_of l)) → s.readings < most_readings
   unfolding refusal_at holds
-  has_room s r x = nleb→lt most_readings s.readings (rw (← count) at (go (is X (tag_of l)) x (passed (before_in ls) l e tooMany)))
+  has_room s r x = nleb→lt most_readings s.readings (rw (← count) at (go (is X (tag_of l)) x (passed (before_in ls) l e too_many)))
     where
       count : s.readings ≡ (before_in ls).readings
       count = unfold before_of in ap (λ (b : Before). b.readings) r.before

@@ -6,7 +6,7 @@ use mathlib.Core.Option.{none}
 use Prim.Native.Nat.{ℕ, ◌+◌, ◌-◌, ◌*◌}
 use lib.Dec.{ltb, eqb}
 use lib.ListN.{replicate}
-use Rattle.lists.specs.Lists.{any, or, seek, tab, present, count}
+use Rattle.lists.specs.Lists.{any, seek, tab, present, count}
 use Rattle.lists.proofs.Tables.{get_d_fresh}
 use Rattle.calendar.specs.declared.Years.{Years}
 use Rattle.calendar.specs.Spans.{among, axis_years}

@@ -46,9 +46,9 @@ date_fits_lem h w y m d a t c =
     only false f = tt
 
 -- before S there is none, which is fine in any span
-pub no_date : (w v : Bool) (h : Years) (k : ℕ) → T (date_fits (years 0 0) w k) → T (date_fits h v k)
+pub no_date_lem : (w v : Bool) (h : Years) (k : ℕ) → T (date_fits (years 0 0) w k) → T (date_fits h v k)
 unfolding date_fits
-no_date w v h k t = go (eqb k 0) t
+no_date_lem w v h k t = go (eqb k 0) t
   where
     go : (b : Bool) → T (b || (among (years 0 0) (k / 366) && (has_date (k / 366) (k % 366) && (not w || is_winter (month_of (k % 366))))))
         → T (b || (among h (k / 366) && (has_date (k / 366) (k % 366) && (not v || is_winter (month_of (k % 366))))))

@@ -7,7 +7,7 @@ use lib.ListN.{length, length-append}
 use Rattle.lists.specs.Lists.{tab, each_nil, each_cons}
 use Rattle.calendar.specs.declared.Years.{Years}
 use Rattle.meaning.specs.Filing.{no_site}
-use Rattle.meaning.specs.Line.{Line, S, is, tag_of, site_on}
+use Rattle.meaning.specs.Line.{Line, S, tag_of, site_on}
 use Rattle.meaning.specs.File.{axis_in, filing_in}
 use Rattle.meaning.specs.Blocks.{Blocks, fresh_blocks, readings_of}
 use Rattle.meaning.specs.Record.{Rec, empty_rec, fresh_rec, is_taken, site_of_rec, history_of_rec, axis_of_rec, contents_fit, filing_of}

@@ -11,13 +11,13 @@ use Rattle.calendar.specs.Places.{winter_before, winter_place}
 use Rattle.note.specs.Peaks.{annex1, day_counts, has_peaks, peak_count, peak_start, peak_days}
 use Rattle.text.specs.Fields.{up_to, past, rest_at, field_at}
 use Rattle.text.specs.Numbers.{value_from, value_of, is_dash}
-use Rattle.meaning.specs.Filing.{site, curveMeter}
+use Rattle.meaning.specs.Filing.{site, curve_meter}
 use Rattle.meaning.specs.Line.{P, D, tag_of_letter, tag_of_field, tag_of, meter_of_letter, meter_of, number_at, site_on, point_of, winter_on}
 use Rattle.meaning.specs.File.{site_in, point_on, point_in, reading_on, readings_in, broken_in, rate_in, dates_in, ended_in, filing_in}
 use Rattle.meaning.specs.Validity.{expected_points, present_points, enough, curve_valid}
 use Rattle.demands.specs.Witness.{site_line, curve_line, end_line, witness_lines}
 
-pub its_site : site_in witness_lines ≡ site 2024 2 curveMeter 1000
+pub its_site : site_in witness_lines ≡ site 2024 2 curve_meter 1000
 unfolding witness_lines site_line curve_line end_line flat site_in seek tag_of tag_of_field tag_of_letter up_to past site_on number_at field_at rest_at value_of value_from meter_of meter_of_letter
 its_site = refl
 

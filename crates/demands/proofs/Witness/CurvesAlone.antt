@@ -16,12 +16,12 @@ use Rattle.calendar.specs.Dates.{month_lengths, longest, days_in, is_date, all_w
 use Rattle.calendar.specs.Places.{before, month_of, day_of, has_date, date_of_winter, has_winter_date}
 use Rattle.rounding.specs.Points.{rounded, rebuilt, most_point, exceeds}
 use Rattle.rounding.proofs.Laws.{half_up_whole, half_up_at_most}
-use Rattle.meaning.specs.Filing.{Filing, Meter, noMeter, curveMeter, indexMeter, history_list, axis_of, years_in}
+use Rattle.meaning.specs.Filing.{Filing, Meter, no_meter, curve_meter, index_meter, history_list, axis_of, years_in}
 use Rattle.meaning.specs.Line.{most_power}
 use Rattle.meaning.specs.Validity.{Interval, intervals, overlaps_winter, total_of, curve_valid, index_valid}
-use Rattle.meaning.specs.Cases.{caseM, case2, Mark, curve_case, case_by, case_of, mark_of, marks_of, is_default}
+use Rattle.meaning.specs.Cases.{case_m, case2, Mark, curve_case, case_by, case_of, mark_of, marks_of, is_default}
 use Rattle.meaning.specs.Points.{as_read, Donor, interval_at, read_by, read_at, donor_place, donor_of, curve_donor, curve_donors, own_of, rebuilt_by, source_by, source_at, rounded_origin, fraction_of, donor_cas, donor_points, origin_exceeds, source_exceeds, CurvePlace, place_of}
-use Rattle.meaning.specs.Closing.{noEnd, partial, noData, zeroTotal, tooHigh, is_partial, some_winter_interval, lacks_profile, lacks_daily, close_holds, close_order, closing_refusal}
+use Rattle.meaning.specs.Closing.{no_end, partial, no_data, zero_total, too_high, is_partial, some_winter_interval, lacks_profile, lacks_daily, close_holds, close_order, closing_refusal}
 use Rattle.meaning.proofs.Accepted.{PointFits}
 use Rattle.demands.proofs.Bound.Sane.{Sane}
 use Rattle.demands.proofs.Bound.Years.{InHistory, each_year_lem, some_year}
@@ -44,7 +44,7 @@ unfolding is_partial
 none_partial n full e = rw e
 
 -- ---- 14 and 15: E is taken, and there is no P or D line
-not_unended : (F : Filing) → T F.ended → close_holds noEnd F ≡ false
+not_unended : (F : Filing) → T F.ended → close_holds no_end F ≡ false
 unfolding close_holds
 not_unended F e = ap not (is_true F.ended e)
 
@@ -71,7 +71,7 @@ modest_where : (b : Bool) (ca : ℕ) (o : Option Donor) → Held (Modest ca) o �
 modest_where true ca o h = h
 modest_where false ca o h = tt
 
--- CA of the target times their points is at most 200,000,000,000 power_of times their CA
+-- CA of the target times their points is at most 200,000,000,000 mW times their CA
 donors_most : {ca : ℕ} {ds : List Donor} → Each (Modest ca) ds → ca * donor_points ds ≤ most_point * donor_cas ds
 unfolding donor_points donor_cas sum
 donors_most each_nil = omega arith
@@ -100,15 +100,15 @@ unfolding has_winter_date date_of_winter has_date is_date day_of month_of before
 new_year y = tt
 
 -- a T year whose index is not valid, where some curve is
-curve_case_lem : (m : Meter) (ks : List Mark) (k : Mark) → m ≡ curveMeter → k.index ≡ false → any (λ (j : Mark). j.curve) ks ≡ true
-    → case_by m ks k ≡ cond k.curve caseM case2
+curve_case_lem : (m : Meter) (ks : List Mark) (k : Mark) → m ≡ curve_meter → k.index ≡ false → any (λ (j : Mark). j.curve) ks ≡ true
+    → case_by m ks k ≡ cond k.curve case_m case2
 unfolding case_by curve_case
-curve_case_lem noMeter ks k m i c = let z : ◌≡◌ {A = ℕ} 0 1 = cc in absurd (omega arith)
-curve_case_lem curveMeter ks k m i c = rw (i, c)
-curve_case_lem indexMeter ks k m i c = let z : ◌≡◌ {A = ℕ} 0 1 = cc in absurd (omega arith)
+curve_case_lem no_meter ks k m i c = let z : ◌≡◌ {A = ℕ} 0 1 = cc in absurd (omega arith)
+curve_case_lem curve_meter ks k m i c = rw (i, c)
+curve_case_lem index_meter ks k m i c = let z : ◌≡◌ {A = ℕ} 0 1 = cc in absurd (omega arith)
 
 -- ---- a filing by curves alone
-module _ (F : Filing) (s : Sane F) (curves : F.site.meter ≡ curveMeter) (unread : F.readings ≡ []) where
+module _ (F : Filing) (s : Sane F) (curves : F.site.meter ≡ curve_meter) (unread : F.readings ≡ []) where
   no_interval : intervals F ≡ []
   unfolding intervals neighbours
   no_interval = rw unread
@@ -141,24 +141,24 @@ module _ (F : Filing) (s : Sane F) (curves : F.site.meter ≡ curveMeter) (unrea
     unfolding marks_of mark_of
     some_curve_lem = is_true _ (some_any (λ (k : Mark). k.curve) (some_picture (mark_of F) (some_year F z at valid)))
 
-    pub case_alone : (y : ℕ) → InHistory F y → case_of F y ≡ cond (curve_valid F y) caseM case2
+    pub case_alone : (y : ℕ) → InHistory F y → case_of F y ≡ cond (curve_valid F y) case_m case2
     unfolding case_of mark_of
     case_alone y t = curve_case_lem F.site.meter (marks_of F) (mark_of F y) curves (no_index y t) some_curve_lem
 
     -- 16
-    not_lacking : close_holds noData F ≡ false
+    not_lacking : close_holds no_data F ≡ false
     unfolding close_holds lacks_profile
     not_lacking = rw (none_passes (lacks_profile F) (each_year_lem F no_lack)) (no_winter_interval (lacks_daily F))
       where
         no_lack : (y : ℕ) → InHistory F y → lacks_profile F y ≡ false
         no_lack y t = rw (no_index y t, case_alone y t) (go (curve_valid F y))
           where
-            go : (b : Bool) → (is_default (cond b caseM case2) && eqb (F.profile_dates y) 0) ≡ false
+            go : (b : Bool) → (is_default (cond b case_m case2) && eqb (F.profile_dates y) 0) ≡ false
             go true = refl
             go false = refl
 
     -- 17
-    not_zero : close_holds zeroTotal F ≡ false
+    not_zero : close_holds zero_total F ≡ false
     unfolding close_holds
     not_zero = no_winter_interval (λ v. eqb (total_of F v) 0)
 
@@ -178,11 +178,11 @@ module _ (F : Filing) (s : Sane F) (curves : F.site.meter ≡ curveMeter) (unrea
       unfolding source_at source_by read_at
       source_low y w h t = rw (case_alone y t) (go (curve_valid F y))
         where
-          go : (b : Bool) → source_exceeds (source_by (cond b caseM case2) F y w h) ≡ false
+          go : (b : Bool) → source_exceeds (source_by (cond b case_m case2) F y w h) ≡ false
           go true = read_low (F.point y w h)
           go false = rebuilt_low (F.ca y) (curve_donors F w h) (curve_modest y w h t)
 
-      not_high : close_holds tooHigh F ≡ false
+      not_high : close_holds too_high F ≡ false
       unfolding close_holds place_of
       not_high = none_passes (λ (q : CurvePlace). source_exceeds q.source) (each_place F (λ y w h t d. source_low y w h t))
 

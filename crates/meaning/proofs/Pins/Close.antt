@@ -19,9 +19,9 @@ use Rattle.note.specs.Peaks.{peak_days}
 use Rattle.rounding.specs.Points.{most_point, rounded, profiled, rebuilt, by_default, exceeds}
 use Rattle.meaning.specs.Filing.{Filing, Reading, axis_of, years_in, history_list, year_of, daily_at}
 use Rattle.meaning.specs.Validity.{Interval, intervals, days_of, total_between, total_of, overlaps_winter, touches, index_valid}
-use Rattle.meaning.specs.Cases.{Case, caseM, case1, case2, case3, case4, caseP, case5, case6, case_of, is_default}
+use Rattle.meaning.specs.Cases.{Case, case_m, case1, case2, case3, case4, case_p, case5, case6, case_of, is_default}
 use Rattle.meaning.specs.Points.{Origin, as_read, by_profile, fraction_of, Donor, Source, missing, own, from_donors, from_default, rounded_origin, donor_cas, donor_points, origin_exceeds, source_exceeds, CurvePlace, place_of, year_places, all_places}
-use Rattle.meaning.specs.Closing.{CloseReason, noEnd, partial, noData, zeroTotal, tooHigh, close_number, is_partial, some_winter_interval, lacks_profile, lacks_daily, close_holds, close_order, closing_refusal}
+use Rattle.meaning.specs.Closing.{CloseReason, no_end, partial, no_data, zero_total, too_high, close_number, is_partial, some_winter_interval, lacks_profile, lacks_daily, close_holds, close_order, closing_refusal}
 use Rattle.meaning.specs.Restated.Dates.{Leap}
 use Rattle.meaning.specs.Restated.Years.{Between, WinterDay, SomeYear}
 use Rattle.meaning.specs.Restated.Close.{SomeAxisYear, Partial, SomeInterval, Touches, HighOrigin, High, CloseWords, earlier_lack, ClosingWords}
@@ -74,12 +74,12 @@ of_default : (c : Case) → T (is_default c) ↔ ((c ≡ case4) ⊎ (c ≡ case6
 of_default c = (forth c, λ s. elim s [ inl e ↦ rw e tt | inr e ↦ rw e tt ])
   where
     forth : (c : Case) → T (is_default c) → (c ≡ case4) ⊎ (c ≡ case6)
-    forth caseM t = absurd t
+    forth case_m t = absurd t
     forth case1 t = absurd t
     forth case2 t = absurd t
     forth case3 t = absurd t
     forth case4 t = inl refl
-    forth caseP t = absurd t
+    forth case_p t = absurd t
     forth case5 t = absurd t
     forth case6 t = inr refl
 
@@ -128,48 +128,48 @@ some_places {Q} F = Iff.trans (some_flat {P = Q} (map (year_places F) (history_l
 -- ---- each condition
 pub of_lacks : (F : Filing) (k : CloseReason) → T (close_holds k F) ↔ CloseWords k F
 unfolding close_holds CloseWords all_winter_dates all_dates lacks_profile lacks_daily place_of
-of_lacks F noEnd = of_not F.ended (λ t. t, λ t. t)
+of_lacks F no_end = of_not F.ended (λ t. t, λ t. t)
 of_lacks F partial =
     of_or (any (λ y. is_partial (F.profile_dates y) (all_winter_dates y)) (history_list F)) (any (λ z. is_partial (F.daily_dates z) (all_dates z)) (years_in (axis_of F)))
     (any_history F (λ y. is_partial (F.profile_dates y) (all_winter_dates y)) (λ y. of_partial 152 151 y (F.profile_dates y)))
     (any_axis F (λ z. is_partial (F.daily_dates z) (all_dates z)) (λ z. of_partial 366 365 z (F.daily_dates z)))
-of_lacks F noData =
+of_lacks F no_data =
     of_or (any (lacks_profile F) (history_list F)) (some_winter_interval F (lacks_daily F))
     (any_history F (lacks_profile F) (λ y. of_and (index_valid F y || is_default (case_of F y)) (eqb (F.profile_dates y) 0)
     (of_or (index_valid F y) (is_default (case_of F y)) (valid_words.index F y) (of_default (case_of F y))) (of_eq (F.profile_dates y) 0)))
     (of_interval_lem F (lacks_daily F) (λ a b. any_axis F (λ z. eqb (F.daily_dates z) 0 && touches F z (record { from = a; to = b }))
     (λ z. of_and (eqb (F.daily_dates z) 0) (touches F z (record { from = a; to = b })) (of_eq (F.daily_dates z) 0) (of_touches F z a b))))
-of_lacks F zeroTotal = of_interval_lem F (λ v. eqb (total_of F v) 0) (of_zero F)
-of_lacks F tooHigh =
+of_lacks F zero_total = of_interval_lem F (λ v. eqb (total_of F v) 0) (of_zero F)
+of_lacks F too_high =
     Iff.trans (of_any (λ (q : CurvePlace). source_exceeds q.source) (λ q. of_high q.source) (all_places F)) (some_places F)
 
 -- ---- the first that holds
 front : (k : CloseReason) → Front k (earlier_lack k) close_order
 unfolding earlier_lack close_order
-front noEnd = front_nil
+front no_end = front_nil
 front partial = front_cons front_nil
-front noData = front_cons (front_cons front_nil)
-front zeroTotal = front_cons (front_cons (front_cons front_nil))
-front tooHigh = front_cons (front_cons (front_cons (front_cons front_nil)))
+front no_data = front_cons (front_cons front_nil)
+front zero_total = front_cons (front_cons (front_cons front_nil))
+front too_high = front_cons (front_cons (front_cons (front_cons front_nil)))
 
 lower_test : (k : CloseReason) → T (all (λ j. ltb (close_number j) (close_number k)) (earlier_lack k))
 unfolding earlier_lack close_number all
-lower_test noEnd = tt
+lower_test no_end = tt
 lower_test partial = tt
-lower_test noData = tt
-lower_test zeroTotal = tt
-lower_test tooHigh = tt
+lower_test no_data = tt
+lower_test zero_total = tt
+lower_test too_high = tt
 
 lower : (k : CloseReason) → Each (λ j. close_number j < close_number k) (earlier_lack k)
 lower k = (of_all (λ j. ltb (close_number j) (close_number k)) (λ j. of_lt (close_number j) (close_number k)) (earlier_lack k)).0 (lower_test k)
 
 each_lack : {Q : CloseReason → Type 0} → Each Q close_order → (k : CloseReason) → Q k
 unfolding close_order
-each_lack e noEnd = each_head e
+each_lack e no_end = each_head e
 each_lack e partial = each_head (each_tail e)
-each_lack e noData = each_head (each_tail (each_tail e))
-each_lack e zeroTotal = each_head (each_tail (each_tail (each_tail e)))
-each_lack e tooHigh = each_head (each_tail (each_tail (each_tail (each_tail e))))
+each_lack e no_data = each_head (each_tail (each_tail e))
+each_lack e zero_total = each_head (each_tail (each_tail (each_tail e)))
+each_lack e too_high = each_head (each_tail (each_tail (each_tail (each_tail e))))
 
 every_lack : {Q : CloseReason → Type 0} → ((k : CloseReason) → Q k) → (ks : List CloseReason) → Each Q ks
 every_lack f [] = each_nil

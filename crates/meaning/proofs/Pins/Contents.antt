@@ -17,7 +17,7 @@ use Rattle.calendar.specs.Spans.{among, year_at, place_at}
 use Rattle.calendar.proofs.Tables.{tri}
 use Rattle.calendar.proofs.Laws.Days.{date_day, day_place}
 use Rattle.calendar.proofs.Laws.Positions.{among_words}
-use Rattle.meaning.specs.Filing.{Reading, Kind, real, corrected, estimated, noKind}
+use Rattle.meaning.specs.Filing.{Reading, Kind, real, corrected, estimated, no_kind}
 use Rattle.meaning.specs.Line.{most_power, most_index, most_profile, most_daily, is_kind}
 use Rattle.meaning.specs.Blocks.{Blocks, missing_point, fresh_reading, readings_of}
 use Rattle.meaning.specs.Record.{Rec, history_of_rec, axis_of_rec, is_dated, point_fits, points_fit, slots_fit, daily_fits, reading_fits, readings_fit, contents_fit}
@@ -66,7 +66,7 @@ of_kind : (k : Kind) → T (is_kind k) ↔ ((k ≡ real) ⊎ (k ≡ corrected) �
 of_kind real = (λ t. inl refl, λ q. tt)
 of_kind corrected = (λ t. inr (inl refl), λ q. tt)
 of_kind estimated = (λ t. inr (inr refl), λ q. tt)
-of_kind noKind = (λ t. absurd t, λ q. elim q [ inl e ↦ (let z : ◌≡◌ {A = ℕ} 0 1 = cc in absurd (omega arith)) | inr r ↦ elim r [ inl e ↦ (let z : ◌≡◌ {A = ℕ} 0 1 = cc in absurd (omega arith)) | inr e ↦ (let z : ◌≡◌ {A = ℕ} 0 1 = cc in absurd (omega arith)) ] ])
+of_kind no_kind = (λ t. absurd t, λ q. elim q [ inl e ↦ (let z : ◌≡◌ {A = ℕ} 0 1 = cc in absurd (omega arith)) | inr r ↦ elim r [ inl e ↦ (let z : ◌≡◌ {A = ℕ} 0 1 = cc in absurd (omega arith)) | inr e ↦ (let z : ◌≡◌ {A = ℕ} 0 1 = cc in absurd (omega arith)) ] ])
 
 module _ (s : Rec) where
   -- ---- points

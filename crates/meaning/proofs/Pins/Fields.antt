@@ -11,7 +11,7 @@ use Rattle.calendar.specs.Dates.{is_winter, all_winter_dates, all_dates}
 use Rattle.calendar.specs.Places.{date_place, has_date, month_of}
 use Rattle.calendar.specs.Spans.{among, axis_years}
 use Rattle.calendar.proofs.Laws.Days.{date_day, day_place}
-use Rattle.meaning.specs.Filing.{Meter, noMeter, curveMeter, indexMeter}
+use Rattle.meaning.specs.Filing.{Meter, no_meter, curve_meter, index_meter}
 use Rattle.meaning.specs.Line.{most_power, most_index}
 use Rattle.meaning.specs.Refusals.{is_too_soon, most_readings}
 use Rattle.meaning.specs.Blocks.{Blocks, sizes_fit}
@@ -42,24 +42,24 @@ module _ (s : Rec) where
   given : (a b n : ℕ) → Says ((not (is_taken s) && eqb n 0) || is_within a b n) (((¬ Taken s) × (n ≡ 0)) ⊎ Within a b n)
   given a b n = either (both (neither taken) (equal n 0)) (within a b n)
 
-  of_meter : (m : Meter) → T (meter_fits (is_taken s) m) ↔ ((Taken s × ((m ≡ curveMeter) ⊎ (m ≡ indexMeter))) ⊎ ((¬ Taken s) × (m ≡ noMeter)))
+  of_meter : (m : Meter) → T (meter_fits (is_taken s) m) ↔ ((Taken s × ((m ≡ curve_meter) ⊎ (m ≡ index_meter))) ⊎ ((¬ Taken s) × (m ≡ no_meter)))
   unfolding meter_fits
   of_meter m = go (is_taken s) (of_taken s) m
     where
-      go : (b : Bool) → T b ↔ Taken s → (m : Meter) → T (meter_fits b m) ↔ ((Taken s × ((m ≡ curveMeter) ⊎ (m ≡ indexMeter))) ⊎ ((¬ Taken s) × (m ≡ noMeter)))
-      go true r noMeter = (λ t. absurd t, λ q. elim q [ inl k ↦ elim k.1 [ inl e ↦ (let z : ◌≡◌ {A = ℕ} 0 1 = cc in absurd (omega arith)) | inr e ↦ (let z : ◌≡◌ {A = ℕ} 0 1 = cc in absurd (omega arith)) ] | inr k ↦ absurd (k.0 (r.0 tt)) ])
-      go true r curveMeter = (λ t. inl (r.0 tt, inl refl), λ q. tt)
-      go true r indexMeter = (λ t. inl (r.0 tt, inr refl), λ q. tt)
-      go false r noMeter = (λ t. inr (λ k. r.1 k, refl), λ q. tt)
-      go false r curveMeter = (λ t. absurd t, λ q. elim q [ inl k ↦ absurd (r.1 k.0) | inr k ↦ (let e : curveMeter ≡ noMeter = k.1 in let z : ◌≡◌ {A = ℕ} 0 1 = cc in absurd (omega arith)) ])
-      go false r indexMeter = (λ t. absurd t, λ q. elim q [ inl k ↦ absurd (r.1 k.0) | inr k ↦ (let e : indexMeter ≡ noMeter = k.1 in let z : ◌≡◌ {A = ℕ} 0 1 = cc in absurd (omega arith)) ])
+      go : (b : Bool) → T b ↔ Taken s → (m : Meter) → T (meter_fits b m) ↔ ((Taken s × ((m ≡ curve_meter) ⊎ (m ≡ index_meter))) ⊎ ((¬ Taken s) × (m ≡ no_meter)))
+      go true r no_meter = (λ t. absurd t, λ q. elim q [ inl k ↦ elim k.1 [ inl e ↦ (let z : ◌≡◌ {A = ℕ} 0 1 = cc in absurd (omega arith)) | inr e ↦ (let z : ◌≡◌ {A = ℕ} 0 1 = cc in absurd (omega arith)) ] | inr k ↦ absurd (k.0 (r.0 tt)) ])
+      go true r curve_meter = (λ t. inl (r.0 tt, inl refl), λ q. tt)
+      go true r index_meter = (λ t. inl (r.0 tt, inr refl), λ q. tt)
+      go false r no_meter = (λ t. inr (λ k. r.1 k, refl), λ q. tt)
+      go false r curve_meter = (λ t. absurd t, λ q. elim q [ inl k ↦ absurd (r.1 k.0) | inr k ↦ (let e : curve_meter ≡ no_meter = k.1 in let z : ◌≡◌ {A = ℕ} 0 1 = cc in absurd (omega arith)) ])
+      go false r index_meter = (λ t. absurd t, λ q. elim q [ inl k ↦ absurd (r.1 k.0) | inr k ↦ (let e : index_meter ≡ no_meter = k.1 in let z : ◌≡◌ {A = ℕ} 0 1 = cc in absurd (omega arith)) ])
 
   abbrev SiteWords : Type 0
   SiteWords =
       (((¬ Taken s) × (s.site.al ≡ 0)) ⊎ Within 2021 2026 s.site.al)
       × ((((¬ Taken s) × (s.site.filiere ≡ 0)) ⊎ Within 1 11 s.site.filiere)
       × ((((¬ Taken s) × (s.site.ps ≡ 0)) ⊎ Within 1 100000000 s.site.ps)
-      × ((Taken s × ((s.site.meter ≡ curveMeter) ⊎ (s.site.meter ≡ indexMeter))) ⊎ ((¬ Taken s) × (s.site.meter ≡ noMeter)))))
+      × ((Taken s × ((s.site.meter ≡ curve_meter) ⊎ (s.site.meter ≡ index_meter))) ⊎ ((¬ Taken s) × (s.site.meter ≡ no_meter)))))
 
   site : Says (site_fits (is_taken s) s.site) SiteWords
   unfolding site_fits

@@ -26,9 +26,9 @@ use Rattle.calendar.proofs.Laws.Positions.{earlier_position}
 use Rattle.text.specs.Fields.{up_to, past, tabs, rest_at, field_at, reads, edition as editionText, is_invalid}
 use Rattle.text.specs.Numbers.{is_number, value_of, is_dash}
 use Rattle.text.proofs.Laws.{of_reads}
-use Rattle.meaning.specs.Filing.{noMeter, curveMeter, indexMeter, Site, no_site, real, corrected, estimated, noKind}
+use Rattle.meaning.specs.Filing.{no_meter, curve_meter, index_meter, Site, no_site, real, corrected, estimated, no_kind}
 use Rattle.meaning.specs.Line.{Line, Tag, S, C, X, D, P, B, R, E, other, rank, is, tag_of, Form, number, number_or_dash, most_power, most_index, most_daily, most_profile, forms_of, size, meter_of_letter, meter_of, is_meter, kind_of_letter, kind_of, is_kind, in_form, in_range, some_field, number_at, year_on, month_on, day_on, site_on, has_date_on, is_winter_tag, has_year_on, date_key, key_of, is_rising}
-use Rattle.meaning.specs.Refusals.{Reason, illegible, unknown, misplaced, malformed, outside, noDate, not_later, tooSoon, falling, tooMany, miscounted, number_of, is_too_soon, is_illegible, is_unknown, is_malformed, is_outside, has_no_date, holds, order, refusal}
+use Rattle.meaning.specs.Refusals.{Reason, illegible, unknown, misplaced, malformed, outside, no_date, not_later, too_soon, falling, too_many, miscounted, number_of, is_too_soon, is_illegible, is_unknown, is_malformed, is_outside, has_no_date, holds, order, refusal}
 use Rattle.meaning.specs.File.{site_in, history_in, rules_out, is_index_meter, misplaced_in, not_later_in, last_index_in, before_in, refusal_at}
 use Rattle.meaning.specs.Restated.Dates.{Winter, Date}
 use Rattle.meaning.specs.Restated.Lines.{Invalid, HasFields, after, IndexFile, RulesOut, Misplaced, Number, Malformed, Off, OffHistory, OffAxis, Outside, Dated, OnlyWinter, Rising, Words, earlier, RefusalWords}
@@ -116,7 +116,7 @@ unfolding meter_of meter_of_letter
 of_index_letter [] = (λ t. absurd t, λ e. absurd (no_letter 73 e))
 of_index_letter (b ∷ []) = go (eqb b 84) (eqb b 73) refl (of_letter b 73)
   where
-    go : (p q : Bool) → eqb b 84 ≡ p → T q ↔ (b ∷ [] ≡ 73 ∷ []) → T (is_index_meter (cond p curveMeter (cond q indexMeter noMeter))) ↔ (b ∷ [] ≡ 73 ∷ [])
+    go : (p q : Bool) → eqb b 84 ≡ p → T q ↔ (b ∷ [] ≡ 73 ∷ []) → T (is_index_meter (cond p curve_meter (cond q index_meter no_meter))) ↔ (b ∷ [] ≡ 73 ∷ [])
     go true q e r = (λ t. absurd t, λ k. absurd (omega (arith, eqb-true b 84 e, same_letter b 73 k)))
     go false true e r = r
     go false false e r = r
@@ -127,7 +127,7 @@ unfolding meter_of meter_of_letter
 of_meter [] = (λ t. absurd t, λ s. elim s [ inl e ↦ absurd (no_letter 84 e) | inr e ↦ absurd (no_letter 73 e) ])
 of_meter (b ∷ []) = go (eqb b 84) (eqb b 73) (of_letter b 84) (of_letter b 73)
   where
-    go : (p q : Bool) → T p ↔ (b ∷ [] ≡ 84 ∷ []) → T q ↔ (b ∷ [] ≡ 73 ∷ []) → T (is_meter (cond p curveMeter (cond q indexMeter noMeter))) ↔ ((b ∷ [] ≡ 84 ∷ []) ⊎ (b ∷ [] ≡ 73 ∷ []))
+    go : (p q : Bool) → T p ↔ (b ∷ [] ≡ 84 ∷ []) → T q ↔ (b ∷ [] ≡ 73 ∷ []) → T (is_meter (cond p curve_meter (cond q index_meter no_meter))) ↔ ((b ∷ [] ≡ 84 ∷ []) ⊎ (b ∷ [] ≡ 73 ∷ []))
     go true q f g = (λ t. inl (f.0 tt), λ s. tt)
     go false true f g = (λ t. inr (g.0 tt), λ s. tt)
     go false false f g = (λ t. absurd t, λ s. elim s [ inl e ↦ f.1 e | inr e ↦ g.1 e ])
@@ -139,7 +139,7 @@ of_kind [] = (λ t. absurd t, λ s. elim s [ inl e ↦ absurd (no_letter 82 e) |
 of_kind (b ∷ []) = go (eqb b 82) (eqb b 67) (eqb b 69) (of_letter b 82) (of_letter b 67) (of_letter b 69)
   where
     go : (p q r : Bool) → T p ↔ (b ∷ [] ≡ 82 ∷ []) → T q ↔ (b ∷ [] ≡ 67 ∷ []) → T r ↔ (b ∷ [] ≡ 69 ∷ [])
-        → T (is_kind (cond p real (cond q corrected (cond r estimated noKind)))) ↔ ((b ∷ [] ≡ 82 ∷ []) ⊎ (b ∷ [] ≡ 67 ∷ []) ⊎ (b ∷ [] ≡ 69 ∷ []))
+        → T (is_kind (cond p real (cond q corrected (cond r estimated no_kind)))) ↔ ((b ∷ [] ≡ 82 ∷ []) ⊎ (b ∷ [] ≡ 67 ∷ []) ⊎ (b ∷ [] ≡ 69 ∷ []))
     go true q r f g h = (λ t. inl (f.0 tt), λ s. tt)
     go false true r f g h = (λ t. inr (inl (g.0 tt)), λ s. tt)
     go false false true f g h = (λ t. inr (inr (h.0 tt)), λ s. tt)
@@ -353,11 +353,11 @@ of_holds ls l unknown = of_unknown l
 of_holds ls l misplaced = of_barred ls (tag_of l)
 of_holds ls l malformed = of_malformed (tag_of l) l
 of_holds ls l outside = of_outside ls (tag_of l) l
-of_holds ls l noDate = of_no_date l
+of_holds ls l no_date = of_no_date l
 of_holds ls l not_later = of_reached ls (tag_of l) (key_of (tag_of l) l)
-of_holds ls l tooSoon = of_and (is S (tag_of l)) (leb 6 (number_at l 3) && ltb (number_at l 2) 2023) (of_is S (tag_of l)) (of_and (leb 6 (number_at l 3)) (ltb (number_at l 2) 2023) (of_le 6 (number_at l 3)) (of_lt (number_at l 2) 2023))
+of_holds ls l too_soon = of_and (is S (tag_of l)) (leb 6 (number_at l 3) && ltb (number_at l 2) 2023) (of_is S (tag_of l)) (of_and (leb 6 (number_at l 3)) (ltb (number_at l 2) 2023) (of_le 6 (number_at l 3)) (of_lt (number_at l 2) 2023))
 of_holds ls l falling = of_and (is X (tag_of l)) (ltb (number_at l 4) (last_index_in ls)) (of_is X (tag_of l)) (of_falling ls (number_at l 4))
-of_holds ls l tooMany = of_and (is X (tag_of l)) (leb 600 (count (λ (m : Line). is X (tag_of m)) ls)) (of_is X (tag_of l)) (of_many ls)
+of_holds ls l too_many = of_and (is X (tag_of l)) (leb 600 (count (λ (m : Line). is X (tag_of m)) ls)) (of_is X (tag_of l)) (of_many ls)
 of_holds ls l miscounted = of_and (is E (tag_of l)) (not (eqb (number_at l 1) (length ls))) (of_is E (tag_of l)) (of_not (eqb (number_at l 1) (length ls)) (of_eq (number_at l 1) (length ls)))
 
 -- ---- the first that holds
@@ -368,11 +368,11 @@ front unknown = front_cons front_nil
 front misplaced = front_cons (front_cons front_nil)
 front malformed = front_cons (front_cons (front_cons front_nil))
 front outside = front_cons (front_cons (front_cons (front_cons front_nil)))
-front noDate = front_cons (front_cons (front_cons (front_cons (front_cons front_nil))))
+front no_date = front_cons (front_cons (front_cons (front_cons (front_cons front_nil))))
 front not_later = front_cons (front_cons (front_cons (front_cons (front_cons (front_cons front_nil)))))
-front tooSoon = front_cons (front_cons (front_cons (front_cons (front_cons (front_cons (front_cons front_nil))))))
+front too_soon = front_cons (front_cons (front_cons (front_cons (front_cons (front_cons (front_cons front_nil))))))
 front falling = front_cons (front_cons (front_cons (front_cons (front_cons (front_cons (front_cons (front_cons front_nil)))))))
-front tooMany = front_cons (front_cons (front_cons (front_cons (front_cons (front_cons (front_cons (front_cons (front_cons front_nil))))))))
+front too_many = front_cons (front_cons (front_cons (front_cons (front_cons (front_cons (front_cons (front_cons (front_cons front_nil))))))))
 front miscounted = front_cons (front_cons (front_cons (front_cons (front_cons (front_cons (front_cons (front_cons (front_cons (front_cons front_nil)))))))))
 
 lower_test : (y : Reason) → T (all (λ z. ltb (number_of z) (number_of y)) (earlier y))
@@ -382,11 +382,11 @@ lower_test unknown = tt
 lower_test misplaced = tt
 lower_test malformed = tt
 lower_test outside = tt
-lower_test noDate = tt
+lower_test no_date = tt
 lower_test not_later = tt
-lower_test tooSoon = tt
+lower_test too_soon = tt
 lower_test falling = tt
-lower_test tooMany = tt
+lower_test too_many = tt
 lower_test miscounted = tt
 
 lower : (y : Reason) → Each (λ z. number_of z < number_of y) (earlier y)

@@ -24,9 +24,9 @@ use Rattle.calendar.proofs.Laws.Winter.{winter_day_place}
 use Rattle.text.specs.Fields.{field_at}
 use Rattle.text.specs.Numbers.{is_dash}
 use Rattle.text.proofs.NumberLaws.{of_dash}
-use Rattle.meaning.specs.Filing.{noMeter, curveMeter, indexMeter, Kind, real, corrected, estimated, noKind}
+use Rattle.meaning.specs.Filing.{no_meter, curve_meter, index_meter, Kind, real, corrected, estimated, no_kind}
 use Rattle.meaning.specs.Line.{Line, Tag, S, C, X, D, P, B, R, E, is, tag_of, meter_of_letter, meter_of, number_at, year_on, month_on, day_on, site_on, value_at, point_of, kind_of_letter, kind_of, has_date_on, date_key, key_of, winter_on, place_on}
-use Rattle.meaning.specs.Refusals.{Reason, misplaced, noDate, not_later}
+use Rattle.meaning.specs.Refusals.{Reason, misplaced, no_date, not_later}
 use Rattle.meaning.specs.File.{site_in, refusal_at, point_on, point_in, profile_on, profile_in, daily_on, daily_in, reading_on, readings_in, broken_in, rate_in, dates_in, ended_in}
 use Rattle.meaning.specs.Blocks.{letter_of_kind}
 use Rattle.meaning.specs.Sheet.{outcome_by, outcome_from, outcome_of}
@@ -76,11 +76,11 @@ winter_date es l e o = (date (is_date (year_on l) (month_on l) (day_on l)) (date
 
     date : (b : Bool) → T b ↔ Date (year_on l) (month_on l) (day_on l) → T b
     date true f = tt
-    date false f = clear es l e noDate (dated o, inl (λ d. f.1 d))
+    date false f = clear es l e no_date (dated o, inl (λ d. f.1 d))
 
     winter : (b : Bool) → T b ↔ Winter (month_on l) → T b
     winter true f = tt
-    winter false f = clear es l e noDate (dated o, inr (o, λ d. f.1 d))
+    winter false f = clear es l e no_date (dated o, inr (o, λ d. f.1 d))
 
 -- the key of a C or P line goes by its year and winter place
 winter_key : (t : Tag) (l : Line) → T (has_date_on t) → T (is_date (year_on l) (month_on l) (day_on l)) × T (is_winter (month_on l)) → key_of t l ≡ 366 * year_on l + date_of_winter (winter_on l)
@@ -225,29 +225,29 @@ look_words = record {
 }
 
 -- ---- what S says
-curve_letter : (f : List ℕ) → (meter_of f ≡ curveMeter) ↔ (f ≡ 84 ∷ [])
+curve_letter : (f : List ℕ) → (meter_of f ≡ curve_meter) ↔ (f ≡ 84 ∷ [])
 unfolding meter_of meter_of_letter
 curve_letter f = (one f, λ e. ap meter_of e)
   where
-    one : (f : List ℕ) → meter_of f ≡ curveMeter → f ≡ 84 ∷ []
+    one : (f : List ℕ) → meter_of f ≡ curve_meter → f ≡ 84 ∷ []
     one [] e = let z : ◌≡◌ {A = ℕ} 0 1 = cc in absurd (omega arith)
     one (b ∷ []) e = go (eqb b 84) (eqb b 73) refl e
       where
-        go : (p q : Bool) → eqb b 84 ≡ p → cond p curveMeter (cond q indexMeter noMeter) ≡ curveMeter → b ∷ [] ≡ 84 ∷ []
+        go : (p q : Bool) → eqb b 84 ≡ p → cond p curve_meter (cond q index_meter no_meter) ≡ curve_meter → b ∷ [] ≡ 84 ∷ []
         go true q h k = ap (λ (x : ℕ). x ∷ []) (eqb-true b 84 h)
         go false true h k = let z : ◌≡◌ {A = ℕ} 0 1 = cc in absurd (omega arith)
         go false false h k = let z : ◌≡◌ {A = ℕ} 0 1 = cc in absurd (omega arith)
     one (b ∷ c ∷ f) e = let z : ◌≡◌ {A = ℕ} 0 1 = cc in absurd (omega arith)
 
-index_letter : (f : List ℕ) → (meter_of f ≡ indexMeter) ↔ (f ≡ 73 ∷ [])
+index_letter : (f : List ℕ) → (meter_of f ≡ index_meter) ↔ (f ≡ 73 ∷ [])
 unfolding meter_of meter_of_letter
 index_letter f = (one f, λ e. ap meter_of e)
   where
-    one : (f : List ℕ) → meter_of f ≡ indexMeter → f ≡ 73 ∷ []
+    one : (f : List ℕ) → meter_of f ≡ index_meter → f ≡ 73 ∷ []
     one [] e = let z : ◌≡◌ {A = ℕ} 0 1 = cc in absurd (omega arith)
     one (b ∷ []) e = go (eqb b 84) (eqb b 73) refl e
       where
-        go : (p q : Bool) → eqb b 73 ≡ q → cond p curveMeter (cond q indexMeter noMeter) ≡ indexMeter → b ∷ [] ≡ 73 ∷ []
+        go : (p q : Bool) → eqb b 73 ≡ q → cond p curve_meter (cond q index_meter no_meter) ≡ index_meter → b ∷ [] ≡ 73 ∷ []
         go true q h k = let z : ◌≡◌ {A = ℕ} 0 1 = cc in absurd (omega arith)
         go false true h k = ap (λ (x : ℕ). x ∷ []) (eqb-true b 73 h)
         go false false h k = let z : ◌≡◌ {A = ℕ} 0 1 = cc in absurd (omega arith)
@@ -259,11 +259,11 @@ site_words l = record { al = refl; filiere = refl; ps = refl; curve = curve_lett
 
 -- ---- kinds
 -- of three letters tried in order, the one that fits is the kind's own
-kind_is : (k : Kind) → k ≢ noKind → (b : ℕ) → kind_of_letter b ≡ k → b ≡ letter_of_kind k
+kind_is : (k : Kind) → k ≢ no_kind → (b : ℕ) → kind_of_letter b ≡ k → b ≡ letter_of_kind k
 unfolding kind_of_letter
 kind_is k n b e =
-    try 82 real refl (cond (eqb b 67) corrected (cond (eqb b 69) estimated noKind))
-    (try 67 corrected refl (cond (eqb b 69) estimated noKind) (try 69 estimated refl noKind (λ q. absurd (n (sym q))))) e
+    try 82 real refl (cond (eqb b 67) corrected (cond (eqb b 69) estimated no_kind))
+    (try 67 corrected refl (cond (eqb b 69) estimated no_kind) (try 69 estimated refl no_kind (λ q. absurd (n (sym q))))) e
   where
     try : (a : ℕ) (u : Kind) → a ≡ letter_of_kind u → (rest : Kind) → (rest ≡ k → b ≡ letter_of_kind k) → cond (eqb b a) u rest ≡ k → b ≡ letter_of_kind k
     try a u h rest r q = go (eqb b a) refl q
@@ -272,7 +272,7 @@ kind_is k n b e =
         go true i j = eqb-true b a i ∙ h ∙ ap letter_of_kind j
         go false i j = r j
 
-kind_letter_lem : (k : Kind) → k ≢ noKind → kind_of_letter (letter_of_kind k) ≡ k → (f : List ℕ) → (kind_of f ≡ k) ↔ (f ≡ letter_of_kind k ∷ [])
+kind_letter_lem : (k : Kind) → k ≢ no_kind → kind_of_letter (letter_of_kind k) ≡ k → (f : List ℕ) → (kind_of f ≡ k) ↔ (f ≡ letter_of_kind k ∷ [])
 unfolding kind_of
 kind_letter_lem k n h f = (one f, λ e. ap kind_of e ∙ h)
   where
@@ -281,8 +281,8 @@ kind_letter_lem k n h f = (one f, λ e. ap kind_of e ∙ h)
     one (b ∷ []) e = ap (λ (x : ℕ). x ∷ []) (kind_is k n b e)
     one (b ∷ c ∷ g) e = absurd (n (sym e))
 
--- a kind whose letter is not 0 is not `noKind`
-not_strange : (k : Kind) → T (not (eqb (letter_of_kind k) 0)) → k ≢ noKind
+-- a kind whose letter is not 0 is not `no_kind`
+not_strange : (k : Kind) → T (not (eqb (letter_of_kind k) 0)) → k ≢ no_kind
 not_strange k h e = both_not (eqb (letter_of_kind k) 0) ((of_eq (letter_of_kind k) 0).1 (ap letter_of_kind e)) h
 
 pub kind_words : (f : List ℕ) → KindWords f

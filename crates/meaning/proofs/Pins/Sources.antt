@@ -26,10 +26,10 @@ use Rattle.rounding.proofs.Laws.{half_up_only}
 use Rattle.rounding.proofs.Formulas.{rated_most}
 use Rattle.meaning.specs.Filing.{Filing, Reading, history_of, years_in, history_list}
 use Rattle.meaning.specs.Validity.{Interval, intervals, has_day, energy_of, total_of, curve_valid, index_valid}
-use Rattle.meaning.specs.Cases.{Case, caseM, case1, case2, case3, case4, caseP, case5, case6, case_of}
+use Rattle.meaning.specs.Cases.{Case, case_m, case1, case2, case3, case4, case_p, case5, case6, case_of}
 use Rattle.meaning.specs.Points.{Origin, as_read, by_profile, fraction_of, Donor, Source, missing, own, from_donors, from_default, position_at, interval_at, profiled_in, profiled_at, read_by, read_at, donor_of, curve_donor, index_donor, curve_donors, index_donors, own_of, rebuilt_by, history_cas, default_at, source_by, source_at, rounded_origin, donor_cas, donor_points, rounded_point, applied_rate, with_rate, place_of, all_places, rated_by, point_at}
 use Rattle.meaning.specs.Level.{missing_entry}
-use Rattle.meaning.specs.Closing.{tooHigh, closing_refusal}
+use Rattle.meaning.specs.Closing.{too_high, closing_refusal}
 use Rattle.meaning.specs.Restated.Years.{Between, CurveValid, IndexValid, OfHistory, SomeYear}
 use Rattle.meaning.specs.Restated.Close.{HighOrigin, High, CloseWords}
 use Rattle.meaning.specs.Restated.Points.{ByDefault, SourceWords}
@@ -55,7 +55,7 @@ origin_most : (o : Origin) → (¬ HighOrigin o) → ((v : ℕ) → o ≡ as_rea
 origin_most (as_read v) n r = omega (arith, read_whole v, r v refl)
 origin_most (by_profile e p t) n r = unfold rounded_origin fraction_of in (at_most 200000000000 (rounded (profiled e p t)) n)
 
--- a point that is not high is at most 200,000,000,000 power_of
+-- a point that is not high is at most 200,000,000,000 mW
 meant_most : (s : Source) → (¬ High s) → ((v : ℕ) → s ≡ own (as_read v) → v ≤ 100000000) → (p : ℕ) → rounded_point s ≡ some p → p ≤ 200000000000
 unfolding rounded_point
 meant_most missing n r p e = let z : ◌≡◌ {A = ℕ} 0 1 = cc in absurd (omega arith)
@@ -85,12 +85,12 @@ default_not_read F y w h v e = let z : ◌≡◌ {A = ℕ} 0 1 = cc in omega ari
 
 read_source : (c : Case) (F : Filing) (y w h v : ℕ) → source_by c F y w h ≡ own (as_read v) → F.point y w h ≡ some v
 unfolding source_by read_at profiled_at
-read_source caseM F y w h v e = read_own (F.point y w h) v e
+read_source case_m F y w h v e = read_own (F.point y w h) v e
 read_source case1 F y w h v e = absurd (profiled_not_read F (interval_at F y w) (F.profile y w h) v e)
 read_source case2 F y w h v e = absurd (rebuilt_not_read (F.ca y) (curve_donors F w h) v e)
 read_source case3 F y w h v e = absurd (rebuilt_not_read (F.ca y) (index_donors F w h) v e)
 read_source case4 F y w h v e = absurd (default_not_read F y w h v e)
-read_source caseP F y w h v e = absurd (profiled_not_read F (interval_at F y w) (F.profile y w h) v e)
+read_source case_p F y w h v e = absurd (profiled_not_read F (interval_at F y w) (F.profile y w h) v e)
 read_source case5 F y w h v e = absurd (rebuilt_not_read (F.ca y) (index_donors F w h) v e)
 read_source case6 F y w h v e = absurd (default_not_read F y w h v e)
 
@@ -110,7 +110,7 @@ pub points_apart : (F : Filing) → closing_refusal F ≡ none → ((y w h v : �
 points_apart F e points rates = (of_none {P = λ q. point_at q ≡ some missing_entry} (all_places F)).0 (λ s. refute ((some_places {Q = λ q. point_at q ≡ some missing_entry} F).0 s))
   where
     not_high : (y : ℕ) → OfHistory F y → ¬ Some (λ w. (h : ℕ) × (h < 20) × High (source_at F y w h)) (peak_days y)
-    not_high y a s = (closing_words.reported F).0 e tooHigh (unfold CloseWords in (y, a, s))
+    not_high y a s = (closing_words.reported F).0 e too_high (unfold CloseWords in (y, a, s))
 
     at : (y w h : ℕ) → (¬ High (source_at F y w h)) → point_at (place_of F y w h) ≢ some missing_entry
     at y w h n = place_apart F y w h (rates y) (meant_most (source_at F y w h) n (λ v q. points y w h v (unfold source_at in (read_source (case_of F y) F y w h v q))))
@@ -119,11 +119,11 @@ points_apart F e points rates = (of_none {P = λ q. point_at q ≡ some missing_
     refute s = let q = paired s.2 ((of_none (peak_days s.0)).0 (not_high s.0 s.1)) in at s.0 q.0 q.1.0 (λ g. q.2 (q.1.0, q.1.1, g)) q.1.2
 
 -- ---- measured years
-measured_point : (F : Filing) (y w h v : ℕ) → case_of F y ≡ caseM → F.point y w h ≡ some v → point_at (place_of F y w h) ≡ some (with_rate (F.rate y) (1000 * v))
+measured_point : (F : Filing) (y w h v : ℕ) → case_of F y ≡ case_m → F.point y w h ≡ some v → point_at (place_of F y w h) ≡ some (with_rate (F.rate y) (1000 * v))
 unfolding point_at place_of applied_rate source_at source_by read_at read_by own_of rounded_point rated_by
 measured_point F y w h v c e = rw (c, e) (ap (λ (p : ℕ). some (with_rate (F.rate y) p)) (read_whole v))
 
-missing_point_lem : (F : Filing) (y w h : ℕ) → case_of F y ≡ caseM → F.point y w h ≡ none → point_at (place_of F y w h) ≡ none
+missing_point_lem : (F : Filing) (y w h : ℕ) → case_of F y ≡ case_m → F.point y w h ≡ none → point_at (place_of F y w h) ≡ none
 unfolding point_at place_of applied_rate source_at source_by read_at read_by own_of rounded_point rated_by
 missing_point_lem F y w h c e = rw (c, e)
 

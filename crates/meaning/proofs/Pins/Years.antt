@@ -19,7 +19,7 @@ use Rattle.calendar.specs.Spans.{year_at, place_at}
 use Rattle.note.specs.Peaks.{peak_days, peak_count, has_peaks, day_counts}
 use Rattle.note.proofs.PeakDays.{days_length}
 use Rattle.calendar.proofs.Tables.{given}
-use Rattle.meaning.specs.Filing.{Filing, Kind, real, corrected, estimated, noKind, is_trusted, Reading, axis_of, year_of}
+use Rattle.meaning.specs.Filing.{Filing, Kind, real, corrected, estimated, no_kind, is_trusted, Reading, axis_of, year_of}
 use Rattle.meaning.specs.Validity.{Interval, half_hours, expected_points, present_points, enough, curve_valid, intervals, days_of, has_day, is_winter_day, overlaps_winter, winter_days, is_covered, is_sound, index_valid}
 use Rattle.meaning.specs.Restated.Dates.{Winter}
 use Rattle.meaning.specs.Restated.Years.{peak_points, Present, CurveValid, Between, WinterDay, Trusted, IndexValid, ValidWords}
@@ -84,7 +84,7 @@ of_trusted : (k : Kind) → T (is_trusted k) ↔ Trusted k
 of_trusted real = (λ t. inl refl, λ s. tt)
 of_trusted corrected = (λ t. inr refl, λ s. tt)
 of_trusted estimated = (λ t. absurd t, λ s. elim s [ inl e ↦ (let z : ◌≡◌ {A = ℕ} 0 1 = cc in absurd (omega arith)) | inr e ↦ (let z : ◌≡◌ {A = ℕ} 0 1 = cc in absurd (omega arith)) ])
-of_trusted noKind = (λ t. absurd t, λ s. elim s [ inl e ↦ (let z : ◌≡◌ {A = ℕ} 0 1 = cc in absurd (omega arith)) | inr e ↦ (let z : ◌≡◌ {A = ℕ} 0 1 = cc in absurd (omega arith)) ])
+of_trusted no_kind = (λ t. absurd t, λ s. elim s [ inl e ↦ (let z : ◌≡◌ {A = ℕ} 0 1 = cc in absurd (omega arith)) | inr e ↦ (let z : ◌≡◌ {A = ℕ} 0 1 = cc in absurd (omega arith)) ])
 
 of_winter_day : (F : Filing) (y p : ℕ) → T (has_date (year_of F p) (place_at p)) × T (is_winter_day F y p) ↔ WinterDay F y p
 unfolding is_winter_day has_date

@@ -1,0 +1,12 @@
+use mathlib.Core.Path.{◌≡◌}
+use mathlib.Core.Bool.{false}
+use Prim.Native.Nat.{◌-◌, ◌≤◌}
+use Rattle.history.specs.Years.{by_history}
+use Rattle.history.specs.ValidYears.{valid_index_at}
+use Rattle.history.proofs.valid.valid_indexes.Given as goal
+
+abbrev pub invariant-loop-k : goal.invariant-loop-k
+invariant-loop-k l = (l.k ≤ l.years) × (l.valid ≡ by_history l.k false (valid_index_at l.positions l.kinds l.n l.breaks))
+
+abbrev pub decreases-loop-k : goal.decreases-loop-k
+decreases-loop-k l = l.years - l.k

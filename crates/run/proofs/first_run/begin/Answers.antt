@@ -1,0 +1,11 @@
+use mathlib.Core.Path.{ap, ◌∙◌}
+use mathlib.Core.List.{[]}
+use Rattle.meaning.specs.Calls.{Out}
+use Rattle.pieces.specs.Run.{run_of, started}
+use Rattle.run.proofs.first_run.begin.Goals as goal
+
+pub returns : goal.returns
+unfolding started
+returns c =
+    let o = c.open_own-result.ensures in
+    c.start.ensures _ ∙ ap (λ (x : Out). run_of x []) (rw (c.fresh_readings.ensures, c.never_opened.ensures) at o)
