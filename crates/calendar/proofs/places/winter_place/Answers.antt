@@ -24,13 +24,11 @@ overflow_sub-days c = (day_parts _ _ (passed _ (sym c.is_day.ensures ∙ c.if-no
 pub overflow_add-result : goal.overflow_add-result
 unfolding date_place
 overflow_add-result c =
-    let b2 = c in
     omega (arith, c.start.ensures, (day_place _ _ (passed _ (sym c.is_day.ensures ∙ c.if-not-is_day.false))).below)
 
 pub returns-then-month-le3 : goal.returns-then-month-le3
 unfolding winter_place_of winter_place
 returns-then-month-le3 c =
-    let b2 = c in
     simp (sym c.is_day.ensures ∙ c.if-not-is_day.false, sym c.is_winter.ensures ∙ c.if-not-is_winter.false, c.start.ensures, winter_start _ c.if-month-le3.true (passed _ (sym c.is_winter.ensures ∙ c.if-not-is_winter.false)))
 
 -- the days before November or December, with those of April to October
@@ -48,7 +46,5 @@ overflow_add-result-2 c =
 pub returns : goal.returns
 unfolding winter_place_of winter_place
 returns c =
-    let b1 = c in
-    let b2 = b1 in
-    let e : c.start-2.result - 214 ≡ winter_before b2.args.month = omega (arith, c.start-2.ensures, late _ _ (sym c.is_day.ensures ∙ c.if-not-is_day.false) (sym c.is_winter.ensures ∙ c.if-not-is_winter.false) c.if-month-le3.false) in
+    let e : c.start-2.result - 214 ≡ winter_before c.args.month = omega (arith, c.start-2.ensures, late _ _ (sym c.is_day.ensures ∙ c.if-not-is_day.false) (sym c.is_winter.ensures ∙ c.if-not-is_winter.false) c.if-month-le3.false) in
     simp (sym c.is_day.ensures ∙ c.if-not-is_day.false, sym c.is_winter.ensures ∙ c.if-not-is_winter.false, e)

@@ -13,14 +13,12 @@ use Rattle.calendar.proofs.positions.position.Goals as goal
 pub returns-then-not-is_among : goal.returns-then-not-is_among
 unfolding position_in
 returns-then-not-is_among c =
-    let b2 = c in
-    rw (← b2.axis-years.ensures, sym c.is_among.ensures ∙ c.if-not-is_among.true)
+    rw (← c.axis-years.ensures, sym c.is_among.ensures ∙ c.if-not-is_among.true)
 
 pub returns-then-not-is_date : goal.returns-then-not-is_date
 unfolding position_in
 returns-then-not-is_date c =
-    let b2 = c in
-    rw (← b2.axis-years.ensures, sym c.is_among.ensures ∙ c.if-not-is_among.false, sym c.is_date.ensures ∙ c.if-not-is_date.true)
+    rw (← c.axis-years.ensures, sym c.is_among.ensures ∙ c.if-not-is_among.false, sym c.is_date.ensures ∙ c.if-not-is_date.true)
 
 -- the year's row is one of the axis
 row : (al filiere year : ℕ) (axis : Years) → axis ≡ axis_years (history_years al filiere) → among axis year ≡ true → (axis.first ≤ year) × (year < axis.first + 12)
@@ -34,24 +32,17 @@ overflow_sub-row c = (row _ _ _ _ c.axis-years.ensures (sym c.is_among.ensures �
 
 pub overflow_mul-result : goal.overflow_mul-result
 overflow_mul-result c =
-    let b7 = c in
     omega (arith, (row _ _ _ _ c.axis-years.ensures (sym c.is_among.ensures ∙ c.if-not-is_among.false)).0, (row _ _ _ _ c.axis-years.ensures (sym c.is_among.ensures ∙ c.if-not-is_among.false)).1)
 
 pub overflow_add-result : goal.overflow_add-result
 overflow_add-result c =
-    let b3 = c in
-    let b7 = b3 in
     omega (arith, (row _ _ _ _ c.axis-years.ensures (sym c.is_among.ensures ∙ c.if-not-is_among.false)).0, (row _ _ _ _ c.axis-years.ensures (sym c.is_among.ensures ∙ c.if-not-is_among.false)).1, place_below _ _ _ (sym c.in-At.ensures))
 
 pub returns-in-At : goal.returns-in-At
 returns-in-At c =
-    let b3 = c in
-    let b5 = b3 in
-    let b7 = b5 in
-    rw (← b7.axis-years.ensures)
+    rw (← c.axis-years.ensures)
     (sym (position_by _ _ _ _ _ (sym c.is_among.ensures ∙ c.if-not-is_among.false) (sym c.is_date.ensures ∙ c.if-not-is_date.false) (sym c.in-At.ensures)))
 
 pub returns-in-Nowhere : goal.returns-in-Nowhere
 returns-in-Nowhere c =
-    let b2 = c in
     absurd (date_has_place _ _ _ (sym c.is_date.ensures ∙ c.if-not-is_date.false) (sym c.in-Nowhere.ensures))

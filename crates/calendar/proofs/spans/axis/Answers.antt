@@ -23,10 +23,9 @@ overflow_sub-result c =
 
 pub overflow_add-result : goal.overflow_add-result
 overflow_add-result c =
-    let b2 = c in
-    let e = ap (λ (s : Years). s.count) b2.history-h.ensures in
+    let e = ap (λ (s : Years). s.count) c.history-h.ensures in
     omega (arith, history_short _ _ (known _ _ _ c.history-h.ensures c.if-h-eq0.false))
 
 pub returns : goal.returns
 unfolding axis_years
-returns c = let b2 = c in rw (← b2.history-h.ensures, ne_eqb _ _ b2.if-h-eq0.false)
+returns c = rw (← c.history-h.ensures, ne_eqb _ _ c.if-h-eq0.false)

@@ -5,17 +5,15 @@ use Rattle.pieces.proofs.line_ends.end.Goals as goal
 
 pub returns-then-text-i-eq10 : goal.returns-then-text-i-eq10
 returns-then-text-i-eq10 c =
-    let b2 = c in let b3 = b2 in let b4 = b3 in
-    let s = b4.args.text.now in
-    let i = b3.loop-i.i in
-    omega (arith, end_here s i b2.loop-i-test.true c.if-text-i-eq10.true)
+    let s = c.args.text.now in
+    let i = c.loop-i.i in
+    omega (arith, end_here s i c.loop-i-test.true c.if-text-i-eq10.true)
 
 pub loop-i-preserved : goal.loop-i-preserved
 loop-i-preserved c =
-    let b2 = c in let b3 = b2 in let b4 = b3 in
-    let s = b4.args.text.now in
-    let i = b3.loop-i.i in
-    (search rules, omega (arith, end_on s i b2.loop-i-test.true c.if-text-i-eq10.false))
+    let s = c.args.text.now in
+    let i = c.loop-i.i in
+    (search rules, omega (arith, end_on s i c.loop-i-test.true c.if-text-i-eq10.false))
 
 pub returns : goal.returns
 returns c = let s = c.args.text.now in let i = c.loop-i.i in omega (arith, end_past s i c.loop-i-test.false)

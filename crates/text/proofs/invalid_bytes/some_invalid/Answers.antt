@@ -9,22 +9,15 @@ loop-i-init c = (omega arith, refl)
 
 pub returns-then-is_invalid : goal.returns-then-is_invalid
 returns-then-is_invalid c =
-    let b1 = c in
-    let b3 = b1 in
-    let b4 = b3 in
-    let s = b4.args.s.now in
-    sym (b4.loop-i.invariant.1 ∙ any_here is_invalid s b4.loop-i.i b3.loop-i-test.true (sym b1.is_invalid.ensures ∙ c.if-is_invalid.true))
+    let s = c.args.s.now in
+    sym (c.loop-i.invariant.1 ∙ any_here is_invalid s c.loop-i.i c.loop-i-test.true (sym c.is_invalid.ensures ∙ c.if-is_invalid.true))
 
 pub loop-i-preserved : goal.loop-i-preserved
 loop-i-preserved c =
-    let b1 = c in
-    let b3 = b1 in
-    let b4 = b3 in
-    let s = b4.args.s.now in
-    (omega arith, b4.loop-i.invariant.1 ∙ any_on is_invalid s b4.loop-i.i b3.loop-i-test.true (sym b1.is_invalid.ensures ∙ c.if-is_invalid.false))
+    let s = c.args.s.now in
+    (omega arith, c.loop-i.invariant.1 ∙ any_on is_invalid s c.loop-i.i c.loop-i-test.true (sym c.is_invalid.ensures ∙ c.if-is_invalid.false))
 
 pub returns : goal.returns
 returns c =
-    let b1 = c in
-    let s = b1.args.s.now in
-    sym (b1.loop-i.invariant.1 ∙ any_end is_invalid s b1.loop-i.i c.loop-i-test.false)
+    let s = c.args.s.now in
+    sym (c.loop-i.invariant.1 ∙ any_end is_invalid s c.loop-i.i c.loop-i-test.false)

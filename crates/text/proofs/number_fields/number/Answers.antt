@@ -11,35 +11,25 @@ loop-i-init c = (omega arith, (omega arith, (refl, (refl, refl))))
 
 pub overflow_add-value : goal.overflow_add-value
 overflow_add-value c =
-    let b3 = c in
-    omega (arith, c.digit_value.ensures, b3.shared_slice_known-in-loop-i-1.given b3.loop-i.i)
+    omega (arith, c.digit_value.ensures, c.shared_slice_known-in-loop-i-1.given c.loop-i.i)
 
 pub loop-i-preserved : goal.loop-i-preserved
 loop-i-preserved c =
-    let b1 = c in
-    let b2 = b1 in
-    let b3 = b2 in
-    let b4 = b3 in
-    let b6 = b4 in
-    let b7 = b6 in
-    let s = b7.args.s.now in
-    let i = b7.loop-i.i in
-    let t = b6.loop-i-test.true in
-    let inv = b7.loop-i.invariant in
+    let s = c.args.s.now in
+    let i = c.loop-i.i in
+    let t = c.loop-i-test.true in
+    let inv = c.loop-i.invariant in
     let told = inv.1.1.1 in
-    (omega arith, (omega (arith, tab_on s i t b4.if-b-eq-TAB.false), (invalid_on s i _ _ t inv.1.1.0 b3.or_invalid-any_invalid.ensures, (number_on s i _ _ _ t told.0 told.1 b2.is_number_with-formed.ensures, value_on s i _ _ t told.1 (c.capped-value.ensures ∙ rw b1.digit_value.ensures)))))
+    (omega arith, (omega (arith, tab_on s i t c.if-b-eq-TAB.false), (invalid_on s i _ _ t inv.1.1.0 c.or_invalid-any_invalid.ensures, (number_on s i _ _ _ t told.0 told.1 c.is_number_with-formed.ensures, value_on s i _ _ t told.1 (c.capped-value.ensures ∙ rw c.digit_value.ensures)))))
 
 pub returns-after-loop-i : goal.returns-after-loop-i
 returns-after-loop-i c =
-    let b1 = c in
-    let s = b1.args.s.now in
-    let inv = b1.loop-i.invariant in
-    numbered s _ _ _ _ (omega (arith, tab_end s b1.loop-i.i c.loop-i-test.false)) inv.1.1.0 inv.1.1.1.0 inv.1.1.1.1
+    let s = c.args.s.now in
+    let inv = c.loop-i.invariant in
+    numbered s _ _ _ _ (omega (arith, tab_end s c.loop-i.i c.loop-i-test.false)) inv.1.1.0 inv.1.1.1.0 inv.1.1.1.1
 
 pub returns-then-b-eq-TAB : goal.returns-then-b-eq-TAB
 returns-then-b-eq-TAB c =
-    let b2 = c in
-    let b3 = b2 in
-    let s = b3.args.s.now in
-    let inv = b3.loop-i.invariant in
-    numbered s _ _ _ _ (omega (arith, tab_here s b3.loop-i.i b2.loop-i-test.true c.if-b-eq-TAB.true)) inv.1.1.0 inv.1.1.1.0 inv.1.1.1.1
+    let s = c.args.s.now in
+    let inv = c.loop-i.invariant in
+    numbered s _ _ _ _ (omega (arith, tab_here s c.loop-i.i c.loop-i-test.true c.if-b-eq-TAB.true)) inv.1.1.0 inv.1.1.1.0 inv.1.1.1.1

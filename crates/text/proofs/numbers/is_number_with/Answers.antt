@@ -7,17 +7,12 @@ returns-then-not-digit c = simp (sym c.digit.ensures ∙ c.if-not-digit.true)
 
 pub returns-then-length-eq0 : goal.returns-then-length-eq0
 returns-then-length-eq0 c =
-    let b1 = c in
-    simp (sym b1.digit.ensures ∙ b1.if-not-digit.false, eq-eqb _ _ c.if-length-eq0.true)
+    simp (sym c.digit.ensures ∙ c.if-not-digit.false, eq-eqb _ _ c.if-length-eq0.true)
 
 pub returns-then-value-eq0 : goal.returns-then-value-eq0
 returns-then-value-eq0 c =
-    let b1 = c in
-    let b2 = b1 in
-    simp (sym b2.digit.ensures ∙ b2.if-not-digit.false, ne_eqb _ _ b1.if-length-eq0.false, eq-eqb _ _ c.if-value-eq0.true)
+    simp (sym c.digit.ensures ∙ c.if-not-digit.false, ne_eqb _ _ c.if-length-eq0.false, eq-eqb _ _ c.if-value-eq0.true)
 
 pub returns : goal.returns
 returns c =
-    let b1 = c in
-    let b2 = b1 in
-    simp (sym b2.digit.ensures ∙ b2.if-not-digit.false, ne_eqb _ _ b1.if-length-eq0.false, ne_eqb _ _ c.if-value-eq0.false)
+    simp (sym c.digit.ensures ∙ c.if-not-digit.false, ne_eqb _ _ c.if-length-eq0.false, ne_eqb _ _ c.if-value-eq0.false)

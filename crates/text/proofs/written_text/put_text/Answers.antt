@@ -35,24 +35,22 @@ bounds-out-p c = omega arith
 
 pub loop-k-preserved : goal.loop-k-preserved
 loop-k-preserved c =
-    let b2 = c in
-    let a = b2.args in
+    let a = c.args in
     let w = a.out.now in
     let s = a.text.now in
-    let k = b2.loop-k.k in
-    let inv = b2.loop-k.invariant in
+    let k = c.loop-k.k in
+    let inv = c.loop-k.invariant in
     let step = paste-suc w a.at s k 0 (omega arith) (omega arith) in
-    (omega arith, (inv.1.0, (length-set b2.loop-k.out (a.at + k) (get_or s k 0) ∙ inv.1.1.0, ap (λ (x : List ℕ). set x (a.at + k) (get_or s k 0)) inv.1.1.1 ∙ rw (add-one k) step)))
+    (omega arith, (inv.1.0, (length-set c.loop-k.out (a.at + k) (get_or s k 0) ∙ inv.1.1.0, ap (λ (x : List ℕ). set x (a.at + k) (get_or s k 0)) inv.1.1.1 ∙ rw (add-one k) step)))
 
 pub overflow_add-result : goal.overflow_add-result
 overflow_add-result c = omega arith
 
 pub returns : goal.returns
 returns c =
-    let b1 = c in
-    let a = b1.args in
+    let a = c.args in
     let w = a.out.now in
     let s = a.text.now in
-    let k = b1.loop-k.k in
-    let inv = b1.loop-k.invariant in
+    let k = c.loop-k.k in
+    let inv = c.loop-k.invariant in
     record { value = omega (arith, place_fits w a.at s inv.1.0); out_after = inv.1.1.1 ∙ written_all w a.at s k inv.1.0 c.loop-k-test.false inv.0 }
