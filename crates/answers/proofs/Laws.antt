@@ -1,12 +1,14 @@
 -- What follows where none of 1, 13 and 14 holds: sizes and ranges that fit, an open record, and E taken at a close.
-use mathlib.Core.Path.{◌≡◌, refl, sym, ◌∙◌}
+use mathlib.Core.Path.{◌≡◌, refl}
 use mathlib.Core.Bool.{Bool, true, false, ◌&&◌, cond}
 use Prim.Native.Nat.{ℕ}
-use native.Mathlib.Omega.{arith}
 use lib.Dec.{T, eqb, eqb→eq}
 use lib.ListN.{length}
 use Rattle.meaning.specs.Record.{State, is_open}
 use Rattle.meaning.specs.Blocks.{Blocks, sizes_fit}
+use Rattle.std.specs.Prelude.{Result, Ok, Err}
+use Rattle.refusals.specs.declared.Refusal.{Refusal}
+use Rattle.refusals.specs.declared.Refusal.TheVariants.{Unfit, NotOpen, NoEnd}
 use Rattle.answers.specs.Refusals.{lengths_fit, open_refusal, ended_refusal}
 
 -- ---- sizes
@@ -24,34 +26,24 @@ pub by_lengths : (w : Blocks) → lengths_fit (length w.near) (length w.far) (le
 unfolding lengths_fit sizes_fit
 by_lengths w = refl
 
--- ---- the numbers
+-- ---- the refusals
 -- neither 1 nor 13
-pub not_early : (b : Bool) (st : State) (n : ℕ) → n ≡ open_refusal b st → n ≡ 0 → (b ≡ true) × (is_open st ≡ true)
+pub not_early : (b : Bool) (st : State) {u : Unit {0}} → Ok u ≡ open_refusal b st → (b ≡ true) × (is_open st ≡ true)
 unfolding open_refusal
-not_early b st n q z = go b (is_open st) refl (sym q ∙ z)
+not_early b st {u} q = go b (is_open st) refl q
   where
-    go : (b x : Bool) → is_open st ≡ x → ◌≡◌ {A = ℕ} (cond b (cond x 0 13) 1) 0 → (b ≡ true) × (is_open st ≡ true)
+    go : (b x : Bool) → is_open st ≡ x → ◌≡◌ {A = Result (Unit {0}) Refusal} (Ok u) (cond b (cond x (Ok tt) (Err NotOpen)) (Err Unfit)) → (b ≡ true) × (is_open st ≡ true)
     go true true e z = (refl, e)
-    go true false e z = absurd (omega arith)
-    go false x e z = absurd (omega arith)
-
--- 1 or 13
-pub refused_early : (b : Bool) (st : State) (last n : ℕ) → n ≡ open_refusal b st → (n ≡ 0 → ⊥) → n ≡ ended_refusal b st last
-unfolding open_refusal ended_refusal
-refused_early b st last n q h = go b (is_open st) q
-  where
-    go : (b x : Bool) → n ≡ cond b (cond x 0 13) 1 → n ≡ cond b (cond x (cond (eqb last 8) 0 14) 13) 1
-    go true true e = absurd (h e)
-    go true false e = e
-    go false x e = e
+    go true false e z = cc
+    go false x e z = cc
 
 -- neither 1 nor 13 nor 14
-pub none_refused : (b : Bool) (st : State) (last n : ℕ) → n ≡ ended_refusal b st last → n ≡ 0 → (b ≡ true) × (is_open st ≡ true) × (last ≡ 8)
+pub none_refused : (b : Bool) (st : State) (last : ℕ) {u : Unit {0}} → Ok u ≡ ended_refusal b st last → (b ≡ true) × (is_open st ≡ true) × (last ≡ 8)
 unfolding ended_refusal
-none_refused b st last n q z = go b (is_open st) (eqb last 8) refl refl (sym q ∙ z)
+none_refused b st last {u} q = go b (is_open st) (eqb last 8) refl refl q
   where
-    go : (b x y : Bool) → is_open st ≡ x → eqb last 8 ≡ y → ◌≡◌ {A = ℕ} (cond b (cond x (cond y 0 14) 13) 1) 0 → (b ≡ true) × (is_open st ≡ true) × (last ≡ 8)
+    go : (b x y : Bool) → is_open st ≡ x → eqb last 8 ≡ y → ◌≡◌ {A = Result (Unit {0}) Refusal} (Ok u) (cond b (cond x (cond y (Ok tt) (Err NoEnd)) (Err NotOpen)) (Err Unfit)) → (b ≡ true) × (is_open st ≡ true) × (last ≡ 8)
     go true true true e f z = (refl, e, eqb→eq last 8 (rw f tt))
-    go true true false e f z = absurd (omega arith)
-    go true false y e f z = absurd (omega arith)
-    go false x y e f z = absurd (omega arith)
+    go true true false e f z = cc
+    go true false y e f z = cc
+    go false x y e f z = cc

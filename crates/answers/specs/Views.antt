@@ -1,7 +1,9 @@
 -- The answers of the code, as the definitions of document 01 have them (document 01, Calls).
-use Rattle.std.specs.Prelude.{cond, [], ℕ, eqb}
+use Rattle.std.specs.Prelude.{[], ℕ, Result, Ok, Err}
 use Rattle.meaning.specs.Calls as meant
 use Rattle.meaning.specs.Calls.{accepted, refused, reported}
+use Rattle.refusals.specs.declared.Refusal.{Refusal}
+use Rattle.refusals.specs.Refusals.{refusal_number}
 use Rattle.answers.specs.declared.Answer.{Answer}
 use Rattle.answers.specs.declared.Answer.TheVariants.{Accepted, Refused, Reported}
 
@@ -11,6 +13,7 @@ answer_view Accepted = accepted
 answer_view (Refused n c) = refused n c
 answer_view (Reported al f n k) = reported (record { al = al; filiere = f; level = n; points = k; years = [] })
 
--- the answer by a refusal's number, 0 for none
-unfoldable pub answer_of : ℕ → ℕ → Answer
-answer_of n c = cond (eqb n 0) Accepted (Refused n c)
+-- the answer to a line that was taken or refused
+unfoldable pub answer_to : Result (Unit {0}) Refusal → ℕ → Answer
+answer_to (Ok _) c = Accepted
+answer_to (Err y) c = Refused (refusal_number y) c

@@ -1,7 +1,49 @@
-// The refusals that come before any other, by number: 1 on the sizes of the lent blocks, and the order of 1, 13 and 14.
-mod numbers; // 1, 13 and 14 in their order
-mod sizes; // the lent blocks' sizes
+// The refusals that come before any other: 1, then 13, then 14 of a close.
+ghost use Rattle.std.specs.Prelude.{◌≡◌, ◌&&◌};
+ghost use Rattle.meaning.specs.Record.{rec_fits};
+ghost use Rattle.progress.specs.ProgressViews.{rec_of, state_view};
+ghost use Rattle.answers.specs.Refusals.{lengths_fit, open_refusal, ended_refusal};
 
-pub use numbers::ended_refusal;
-pub(crate) use numbers::open_refusal;
-pub use sizes::sizes_fit;
+use crate::Lengths;
+use line_form::END_TAG;
+use progress::{Progress, State, is_open, record_fits};
+use refusals::Refusal;
+
+// 1 where something does not fit, else 13 where the record is not open.
+#[tactic(auto, unfolding(crate::specs::Refusals::open_refusal))]
+fn open_refusal(fit: bool, state: State) -> Result<(), Refusal>
+    ensures { result ≡ open_refusal fit (state_view state) }
+{
+    if !fit {
+        return Err(Refusal::Unfit);
+    }
+    if !is_open(state) {
+        return Err(Refusal::NotOpen);
+    }
+    Ok(())
+}
+
+// At a close: 1, else 13, else 14 where E was not taken.
+#[tactic(auto, unfolding(crate::specs::Refusals::open_refusal, crate::specs::Refusals::ended_refusal))]
+pub fn ended_refusal(fit: bool, state: State, last: u64) -> Result<(), Refusal>
+    ensures { result ≡ ended_refusal fit (state_view state) last }
+{
+    open_refusal(fit, state)?;
+    if last != END_TAG {
+        return Err(Refusal::NoEnd);
+    }
+    Ok(())
+}
+
+// At a line: 1, else 13. The record comes by its parts, since its type stands with its calls, above.
+#[tactic(auto, using(progress::proofs::StateLaws::any_state))]
+pub fn line_refusal(
+    state: State,
+    count: u64,
+    progress: Progress,
+    lengths: Lengths,
+) -> Result<(), Refusal>
+    ensures { result ≡ open_refusal (lengths_fit lengths.near lengths.far lengths.slots lengths.daily lengths.readings lengths.curve && rec_fits (rec_of state count progress)) (state_view state) }
+{
+    open_refusal(lengths.fit() && record_fits(count, progress), state)
+}

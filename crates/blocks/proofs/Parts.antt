@@ -1,27 +1,31 @@
 -- Laws of a row as a part of its block, and of the tests that pick it.
-use mathlib.Core.Path.{◌≡◌, sym, ◌∙◌}
-use mathlib.Core.Bool.{◌&&◌}
-use mathlib.Core.List.{List, []}
-use Prim.Native.Nat.{ℕ, ◌-◌, ◌≤◌, ◌<◌}
+use mathlib.Core.Path.{◌≡◌, refl}
+use mathlib.Core.Bool.{Bool, true, false, ◌&&◌}
+use mathlib.Core.List.{List}
+use Prim.Native.Nat.{ℕ, ◌+◌, ◌-◌, ◌≤◌, ◌<◌, min}
 use native.Mathlib.Omega.{arith}
 use lib.Dec.{T, leb, leb→le}
 use lib.ListN.{length, take, drop, length-drop, drop_of_length-le}
-use lib.Seq.{take_all, take-length}
+use borrow.Author.Tests.{leb-true, leb-false}
+use Rattle.std.proofs.lemmas.List.{take_min}
 use Rattle.lists.proofs.Tests.{and_parts}
-use Rattle.meaning.specs.Blocks.{row_size}
 use Rattle.blocks.specs.Rows.{holds_year, part}
 
--- past the block's end there is nothing
-pub part_none : (xs : List ℕ) (a : ℕ) → length xs < a → part xs a ≡ []
+-- from the start or the block's end to 3,040 places on or the block's end
+pub part_cut : (xs : List ℕ) (a b e : ℕ) → b ≡ min a (length xs) → e ≡ min (b + 3040) (length xs) → take (e - b) (drop b xs) ≡ part xs a
 unfolding part
-part_none xs a h = rw (drop_of_length-le xs {i = a} (omega arith))
-
--- what is left where it is less than a row
-pub part_short : (xs : List ℕ) (a : ℕ) → length xs - a < row_size → take (length xs - a) (drop a xs) ≡ part xs a
-unfolding part
-part_short xs a h =
-    rw (← length-drop a xs) (take-length (drop a xs))
-    ∙ sym (take_all row_size (drop a xs) (rw (length-drop a xs) (omega arith)))
+part_cut xs a b e p q = go (leb a (length xs)) refl
+  where
+    go : (t : Bool) → leb a (length xs) ≡ t → take (e - b) (drop b xs) ≡ take 3040 (drop a xs)
+    go true h =
+        let l : a ≤ length xs = leb-true a (length xs) h in
+        let n : b ≡ a = omega arith in
+        let m : e - b ≡ min 3040 (length (drop a xs)) = omega (arith, length-drop a xs) in
+        rw (m, n) (take_min 3040 (drop a xs))
+    go false h =
+        let l : length xs < a = leb-false a (length xs) h in
+        let n : e - b ≡ 0 = omega arith in
+        rw (n, drop_of_length-le xs {i = a} (omega arith)) refl
 
 -- what follows where the blocks hold a year for an AL
 pub record Held (al y : ℕ) : Type 0 where

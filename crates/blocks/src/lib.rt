@@ -2,6 +2,7 @@
 #![tactic(auto)]
 
 mod year_rows; // a year's row of points: a part of the near or of the far block
+mod day_values; // the 20 values of a line, stored in a year's row
 mod point_rows; // the points of a C line, stored in its year's row
 mod stores; // the profile values of a P line and the sum of a D line, stored
 

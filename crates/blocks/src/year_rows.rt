@@ -5,19 +5,11 @@ ghost use Rattle.blocks.specs.Rows.{holds_year, part, row_of};
 use crate::ROW;
 
 // Whether the two blocks hold the year for the AL.
+#[tactic(auto, unfolding(crate::specs::Rows::holds_year))]
 pub(crate) fn holds_year(al: u64, year: u64) -> bool
     ensures { result ≡ holds_year al year }
 {
-    if al < 2021 {
-        return false;
-    }
-    if 2026 < al {
-        return false;
-    }
-    if year < al - 14 {
-        return false;
-    }
-    year <= al - 5
+    (2021..=2026).contains(&al) && (al - 14..=al - 5).contains(&year)
 }
 
 // The i-th row of a block, or as much of it as the block has.
@@ -25,15 +17,9 @@ fn row_part(block: &[u32], i: u64) -> &[u32]
     requires { i < 10 }
     ensures { result.now ≡ part block.now (3040 * i) }
 {
-    let a = ROW * (i as usize);
-    if block.len() < a {
-        return &block[..0];
-    }
-    if block.len() - a < ROW {
-        return &block[a..];
-    }
-    let e = a + ROW;
-    &block[a..e]
+    let start = (ROW * (i as usize)).min(block.len());
+    let end = (start + ROW).min(block.len());
+    &block[start..end]
 }
 
 // The year's points: a part of whichever block holds it.
@@ -41,7 +27,7 @@ pub fn row<'a>(near: &'a [u32], far: &'a [u32], al: u64, year: u64) -> &'a [u32]
     ensures { result.now ≡ row_of al near.now far.now year }
 {
     if !holds_year(al, year) {
-        return &near[..0];
+        return &[];
     }
     let first = al - 9;
     if first <= year {

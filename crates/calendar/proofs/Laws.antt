@@ -10,12 +10,12 @@ pub use Months.{no_month, longest_31, before_past, month_over}
 -- leap years, dates and days, and the places of days
 pub use Days.{leap_words, date_words, DayParts, day_parts, DayHasPlace, day_place, PlaceHasDay, place_day, days_in_longest, date_day, date_at_place}
 -- the places at which a year has a date, and how many they are
-pub use Days.{has_date_rule, has_date_leap, has_date_other, no_date_past, dates_in_year}
+pub use Days.{has_date_rule, has_date_leap, has_date_other, has_date_cases, no_date_past, dates_in_year}
 -- an earlier day has a lower place
 pub use Days.{earlier_place}
 -- the same of winter
 pub use Winter.{winter_words, WinterDayHasPlace, winter_day_place, WinterPlaceHasDay, winter_place_day}
-pub use Winter.{has_winter_date_rule, has_winter_date_leap, has_winter_date_other, no_winter_date_past, winter_dates_in_year}
+pub use Winter.{has_winter_date_rule, has_winter_date_leap, has_winter_date_other, has_winter_date_cases, no_winter_date_past, winter_dates_in_year}
 pub use Winter.{winter_parts, winter_rises, winter_same, earlier_winter_place}
 -- history and axis years
 pub use Positions.{among_words, among_by_count, axis_among, length_5_10, Known, known_parts, has_history, no_history, known_history}

@@ -13,7 +13,7 @@ pub use dates::{is_date, is_leap, is_winter};
 pub use places::{date_of_winter, date_place, day_at, winter_day_at, winter_place};
 pub use positions::{date_at, position};
 pub use rows::{has_date, has_winter_date};
-pub use spans::{axis, history, history_length, is_among};
+pub use spans::{axis, history, history_length};
 pub use year_dates::{all_dates, all_winter_dates};
 
 // Some consecutive years: the first, and how many.
@@ -23,23 +23,17 @@ pub struct Years {
     pub count: u64,
 }
 
-// A place or a position, where there is one.
+// A month and its day.
 #[derive(Clone, Copy)]
-pub enum Place {
-    At(usize),
-    Nowhere,
+pub struct Day {
+    pub month: u64,
+    pub day: u64,
 }
 
-// A month and its day, at a place that has one.
+// A day of one year.
 #[derive(Clone, Copy)]
-pub enum Day {
-    Of { month: u64, day: u64 },
-    Nowhere,
-}
-
-// A date of the axis, at a position that has one.
-#[derive(Clone, Copy)]
-pub enum AxisDate {
-    On { year: u64, month: u64, day: u64 },
-    Nowhere,
+pub struct Date {
+    pub year: u64,
+    pub month: u64,
+    pub day: u64,
 }

@@ -2,63 +2,55 @@
 ghost use Rattle.std.specs.Prelude.{◌≡◌};
 ghost use Rattle.calendar.specs.Answers.{date_place_of, winter_place_of, winter_date_place, day_at, winter_day_at};
 
-use crate::{Day, Place};
+use crate::Day;
+use crate::dates::{is_day, is_winter};
+use crate::rows::{month_at, start};
 
-pub fn date_place(month: u64, day: u64) -> Place
+pub fn date_place(month: u64, day: u64) -> Option<usize>
     ensures { result ≡ date_place_of month day }
 {
-    if !crate::dates::is_day(month, day) {
-        return Place::Nowhere;
+    if !is_day(month, day) {
+        return None;
     }
     let days = (day - 1) as usize;
-    Place::At(crate::rows::start(month) + days)
+    Some(start(month) + days)
 }
 
 // The winter place of a day. Before November and December come the 214 days of April to October, which are no winter days.
-pub fn winter_place(month: u64, day: u64) -> Place
+pub fn winter_place(month: u64, day: u64) -> Option<usize>
     ensures { result ≡ winter_place_of month day }
 {
-    if !crate::dates::is_day(month, day) {
-        return Place::Nowhere;
+    let place = date_place(month, day)?;
+    if !is_winter(month) {
+        return None;
     }
-    if !crate::dates::is_winter(month) {
-        return Place::Nowhere;
-    }
-    let days = (day - 1) as usize;
-    if month <= 3 {
-        return Place::At(crate::rows::start(month) + days);
-    }
-    Place::At(crate::rows::start(month) - 214 + days)
+    Some(if month <= 3 { place } else { place - 214 })
 }
 
-pub fn date_of_winter(place: usize) -> Place
+#[tactic(auto, unfolding(crate::specs::Answers::winter_date_place, crate::specs::Places::date_of_winter))]
+pub fn date_of_winter(place: usize) -> Option<usize>
     ensures { result ≡ winter_date_place place }
 {
-    if place < 91 {
-        return Place::At(place);
+    match place {
+        0..=90 => Some(place),
+        91..=151 => Some(place + 214),
+        _ => None,
     }
-    if place < 152 {
-        return Place::At(place + 214);
-    }
-    Place::Nowhere
 }
 
-pub fn day_at(place: usize) -> Day
+pub fn day_at(place: usize) -> Option<Day>
     ensures { result ≡ day_at place }
 {
     if 366 <= place {
-        return Day::Nowhere;
+        return None;
     }
-    let month = crate::rows::month_at(place);
-    let day = (place - crate::rows::start(month)) as u64 + 1;
-    Day::Of { month, day }
+    let month = month_at(place);
+    let day = (place - start(month)) as u64 + 1;
+    Some(Day { month, day })
 }
 
-pub fn winter_day_at(place: usize) -> Day
+pub fn winter_day_at(place: usize) -> Option<Day>
     ensures { result ≡ winter_day_at place }
 {
-    match date_of_winter(place) {
-        Place::At(p) => day_at(p),
-        Place::Nowhere => Day::Nowhere,
-    }
+    day_at(date_of_winter(place)?)
 }

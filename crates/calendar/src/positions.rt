@@ -3,43 +3,38 @@ ghost use Rattle.std.specs.Prelude.{◌≡◌};
 ghost use Rattle.calendar.specs.Spans.{history_years, axis_years};
 ghost use Rattle.calendar.specs.Answers.{position_in, date_at};
 
-use crate::spans::{axis, is_among};
-use crate::{AxisDate, Day, Place};
+use crate::dates::is_date;
+use crate::places::{date_place, day_at};
+use crate::rows::has_date;
+use crate::spans::axis;
+use crate::{Date, Day};
 
 // The place of a date in the daily block: 366 places for each year of the axis.
-pub fn position(al: u64, filiere: u64, year: u64, month: u64, day: u64) -> Place
+pub fn position(al: u64, filiere: u64, year: u64, month: u64, day: u64) -> Option<usize>
     ensures { result ≡ position_in (axis_years (history_years al filiere)) year month day }
 {
     let years = axis(al, filiere);
-    if !is_among(years, year) {
-        return Place::Nowhere;
-    }
-    if !crate::dates::is_date(year, month, day) {
-        return Place::Nowhere;
+    if !years.contains(year) || !is_date(year, month, day) {
+        return None;
     }
     let row = (year - years.first) as usize;
-    match crate::places::date_place(month, day) {
-        Place::At(p) => Place::At(366 * row + p),
-        Place::Nowhere => Place::Nowhere,
-    }
+    Some(366 * row + date_place(month, day)?)
 }
 
 // The date at a place of the daily block.
-pub fn date_at(al: u64, filiere: u64, position: usize) -> AxisDate
+pub fn date_at(al: u64, filiere: u64, position: usize) -> Option<Date>
     ensures { result ≡ date_at (axis_years (history_years al filiere)) position }
 {
     let years = axis(al, filiere);
     let row = (position / 366) as u64;
     if years.count <= row {
-        return AxisDate::Nowhere;
+        return None;
     }
     let year = years.first + row;
     let place = position % 366;
-    if !crate::rows::has_date(year, place) {
-        return AxisDate::Nowhere;
+    if !has_date(year, place) {
+        return None;
     }
-    match crate::places::day_at(place) {
-        Day::Of { month, day } => AxisDate::On { year, month, day },
-        Day::Nowhere => AxisDate::Nowhere,
-    }
+    let Day { month, day } = day_at(place)?;
+    Some(Date { year, month, day })
 }

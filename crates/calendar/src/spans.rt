@@ -4,32 +4,34 @@ ghost use Rattle.calendar.specs.Spans.{among, history_length, is_known, history_
 
 use crate::Years;
 
+const NO_YEARS: Years = Years { first: 0, count: 0 };
+
+impl Years {
+    // Whether a year is one of them: by the difference, since the sum of first and count can be too large for a u64.
+    #[tactic(auto, unfolding(crate::specs::Spans::among))]
+    pub fn contains(self, year: u64) -> bool
+        ensures { result ≡ among self year }
+    {
+        self.first <= year && year - self.first < self.count
+    }
+}
+
 // How many years the history has: ten for run of river and pondage hydro, else five.
+#[tactic(auto, unfolding(crate::specs::Spans::history_length))]
 pub fn history_length(filiere: u64) -> u64
     ensures { result ≡ history_length filiere }
 {
-    if filiere == 4 {
-        return 10;
+    match filiere {
+        4 | 5 => 10,
+        _ => 5,
     }
-    if filiere == 5 {
-        return 10;
-    }
-    5
 }
 
+#[tactic(auto, unfolding(crate::specs::Spans::is_known))]
 fn is_known(al: u64, filiere: u64) -> bool
     ensures { result ≡ is_known al filiere }
 {
-    if al < 2021 {
-        return false;
-    }
-    if 2026 < al {
-        return false;
-    }
-    if filiere == 0 {
-        return false;
-    }
-    filiere <= 11
+    (2021..=2026).contains(&al) && (1..=11).contains(&filiere)
 }
 
 // The history years, which end at AL-5; none for an AL or a filière that is not known.
@@ -37,7 +39,7 @@ pub fn history(al: u64, filiere: u64) -> Years
     ensures { result ≡ history_years al filiere }
 {
     if !is_known(al, filiere) {
-        return Years { first: 0, count: 0 };
+        return NO_YEARS;
     }
     let count = history_length(filiere);
     Years {
@@ -52,20 +54,10 @@ pub fn axis(al: u64, filiere: u64) -> Years
 {
     let h = history(al, filiere);
     if h.count == 0 {
-        return Years { first: 0, count: 0 };
+        return NO_YEARS;
     }
     Years {
         first: h.first - 1,
         count: h.count + 2,
     }
-}
-
-// Whether a year is one of them: by the difference, since the sum of first and count can be too large for a u64.
-pub fn is_among(years: Years, year: u64) -> bool
-    ensures { result ≡ among years year }
-{
-    if year < years.first {
-        return false;
-    }
-    year - years.first < years.count
 }

@@ -23,10 +23,12 @@ use Rattle.curve.specs.declared.CurveTotals.{CurveTotals}
 use Rattle.curve.specs.Places.{site_factors_of, curve_totals_of, curve_in}
 use Rattle.curve.specs.Fits.{ListsFit, CurveTotalsAre}
 use Rattle.curve.proofs.Close.{exceeds_is, counted_is, curve_is}
-use Rattle.close.specs.declared.outcome.file.FileOutcome.{FileOutcome}
+use Rattle.std.specs.Prelude.{Result, Ok, Err}
+use Rattle.refusals.specs.declared.Refusal.{Refusal}
+use Rattle.refusals.specs.declared.Refusal.TheVariants.{TooHigh}
+use Rattle.close.specs.declared.outcome.file.FileReport.{FileReport}
 use Rattle.history.specs.ValidYears.{valid_curves, valid_indexes, valid_years}
 use Rattle.close_checks.specs.DataRefusals.{data_refusal}
-use Rattle.close.specs.FileOutcomes.{refused_by}
 use Rattle.close.specs.ReportRows.{reported_by}
 use Rattle.close.specs.Closes.{FileFits, file_out, file_out_of}
 use Rattle.close.proofs.FileFacts.{known, short, oldest, lists_fit, means}
@@ -62,7 +64,7 @@ module _ {t : Site} {n : ℕ} {k : Tallies} {w : Blocks} {ps xs ks : List ℕ} (
     pub lists : ListsFit t.al w.near w.far w.slots es ts k.rates
     lists = rw (found.energies, found.totals) (lists_fit fit)
 
-    module _ (c : List ℕ) {number : ℕ} (told : number ≡ data_refusal h k.profile_dates k.daily_dates v.indexes d ps n ts) where
+    module _ (c : List ℕ) {number : Result (Unit {0}) Refusal} (told : number ≡ data_refusal h k.profile_dates k.daily_dates v.indexes d ps n ts) where
       abbrev y : Years
       y = history_years t.al t.filiere
 
@@ -86,10 +88,10 @@ module _ {t : Site} {n : ℕ} {k : Tallies} {w : Blocks} {ps xs ks : List ℕ} (
       stop_is = rw (found.defaults, found.cases, found.valid, found.history, found.totals) at told
 
       -- 15, 16, 17
-      pub stops : {r : FileOutcome} → r ≡ refused_by number → (number ≡ 0 → ⊥) → file_out r c ≡ file_out_of F c
-      stops e z = ap (λ (x : FileOutcome). file_out x c) e ∙ stopped fit c number stop_is z
+      pub stops : {y : Refusal} → number ≡ Err y → file_out (Err y) c ≡ file_out_of F c
+      stops {y} z = stopped fit c y (sym z ∙ stop_is)
 
-      module _ (zero : number ≡ 0) {after : List ℕ} {f : CurveTotals}
+      module _ {u : Unit {0}} (passed : number ≡ Ok u) {after : List ℕ} {f : CurveTotals}
           (filled : CurveTotalsAre (site_factors_of t.al t.filiere t.ps) (file_data w.near w.far w.slots es ts v.curves v.indexes (cas_from (site_factors_of t.al t.filiere t.ps).first t.filiere))
           x k.rates after f) where
         filled_is : CurveTotalsAre (site_factors_of t.al t.filiere t.ps) (file_data w.near w.far w.slots energies totals cs is (cas_from y.first t.filiere)) cases k.rates after f
@@ -101,8 +103,8 @@ module _ {t : Site} {n : ℕ} {k : Tallies} {w : Blocks} {ps xs ks : List ℕ} (
             sym (ap (λ (x : CurveTotals). x.exceeds) filled_is.is ∙ exceeds_is t n k true w energies totals cs is cases (means fit))
 
         -- 18
-        pub exceeds : {r : FileOutcome} {left : List ℕ} → r ≡ refused_by 18 → left ≡ cond f.exceeds c after → f.exceeds ≡ true → file_out r left ≡ file_out_of F c
-        exceeds e l q = ap₂ file_out e (l ∙ ap (λ (b : Bool). cond b c after) q) ∙ exceeded fit c number stop_is zero (too_high_lem ∙ q)
+        pub exceeds : {left : List ℕ} → left ≡ cond f.exceeds c after → f.exceeds ≡ true → file_out (Err TooHigh) left ≡ file_out_of F c
+        exceeds l q = ap (file_out (Err TooHigh)) (l ∙ ap (λ (b : Bool). cond b c after) q) ∙ exceeded fit c (sym passed ∙ stop_is) (too_high_lem ∙ q)
 
         pub whole : length after ≡ 4400
         unfolding curve_in
@@ -120,10 +122,10 @@ module _ {t : Site} {n : ℕ} {k : Tallies} {w : Blocks} {ps xs ks : List ℕ} (
               known_filing = unfold filing_held in (known fit)
 
           -- no refusal
-          pub reported : {r : FileOutcome} {left : List ℕ} → r ≡ reported_by t.al t.filiere h x f → left ≡ cond f.exceeds c after → file_out r left ≡ file_out_of F c
+          pub reported : {r : FileReport} {left : List ℕ} → r ≡ reported_by t.al t.filiere h x f → left ≡ cond f.exceeds c after → file_out (Ok r) left ≡ file_out_of F c
           reported e l =
-              ap₂ file_out (e ∙ same ∙ reported_is fit fine) (l ∙ ap (λ (b : Bool). cond b c after) low ∙ filled_is.curve ∙ curve_is t n k true w energies totals cs is cases (means fit) fine)
-              ∙ reports fit c number stop_is zero (too_high_lem ∙ low)
+              ap₂ (λ (y : FileReport) (ys : List ℕ). file_out (Ok y) ys) (e ∙ same ∙ reported_is fit fine) (l ∙ ap (λ (b : Bool). cond b c after) low ∙ filled_is.curve ∙ curve_is t n k true w energies totals cs is cases (means fit) fine)
+              ∙ reports fit c (sym passed ∙ stop_is) (too_high_lem ∙ low)
             where
               same : reported_by t.al t.filiere h x f
                   ≡ reported_by t.al t.filiere y cases (curve_totals_of (site_factors_of t.al t.filiere t.ps) (file_data w.near w.far w.slots energies totals cs is (cas_from y.first t.filiere)) cases k.rates)

@@ -1,43 +1,50 @@
--- 15 to 18 in order of checking: the numbers in the code are those of document 01's refusal.
+-- 15 to 18 in order of checking: the refusals in the code are those of document 01.
 use mathlib.Core.Path.{◌≡◌, refl, ap, sym, ◌∙◌}
 use mathlib.Core.Bool.{Bool, true, false, cond}
 use mathlib.Core.List.{List}
 use mathlib.Core.Option.{Option, some, none}
 use Prim.Native.Nat.{ℕ}
-use native.Mathlib.Omega.{arith}
 use Rattle.lists.specs.Lists.{first_of}
 use Rattle.calendar.specs.Spans.{history_years}
 use Rattle.meaning.specs.Filing.{Site, Filing}
 use Rattle.meaning.specs.Level.{report_of, curve_of}
-use Rattle.meaning.specs.Closing.{CloseReason, no_end, partial, no_data, zero_total, too_high, close_number, close_holds, close_order, closing_refusal}
+use Rattle.meaning.specs.Closing.{CloseReason, no_end, partial, no_data, zero_total, too_high, close_holds, close_order, closing_refusal}
 use Rattle.meaning.specs.Blocks.{Blocks}
 use Rattle.meaning.specs.Record.{Tallies, history_of_site, filing_held}
 use Rattle.validity.specs.Days.{totals_of}
 use Rattle.close_checks.proofs.Lacking.{partial_held, lacking_held, zero_held}
 use Rattle.history.specs.Cases.{cases_of, default_years}
 use Rattle.history.specs.ValidYears.{valid_curves, valid_indexes}
-use Rattle.close_checks.specs.DataRefusals.{first_number, data_refusal}
-use Rattle.close.specs.FileOutcomes.{refused_by}
+use Rattle.close_checks.specs.DataRefusals.{first_refusal, data_refusal}
+use Rattle.std.specs.Prelude.{Result, Ok, Err}
+use Rattle.refusals.specs.declared.Refusal.{Refusal}
+use Rattle.refusals.specs.declared.Refusal.TheVariants.{TooHigh}
+use Rattle.refusals.specs.Refusals.{of_close_reason}
+use Rattle.close.specs.declared.outcome.file.FileReport.{FileReport}
 use Rattle.close.specs.Closes.{FileFits, file_out, report_repr, file_out_by, file_out_of}
 use Rattle.close.proofs.FileFacts.{rise, indexes_valid, default_is}
+
+-- the same refusal, where a report could be
+again : {y z : Refusal} → ◌≡◌ {A = Result (Unit {0}) Refusal} (Err y) (Err z) → ◌≡◌ {A = Result FileReport Refusal} (Err y) (Err z)
+again {y} {z} h = let e : y ≡ z = cc in ap (λ (v : Refusal). Err v) e
 
 -- ---- from whether 15, 16, 17 and 18 hold
 abbrev refusal_by : Bool → Bool → Bool → Bool → Option CloseReason
 refusal_by p l z x = cond p (some partial) (cond l (some no_data) (cond z (some zero_total) (cond x (some too_high) none)))
 
 module _ (F : Filing) (c : List ℕ) where
-  by_stop : (p l z x : Bool) → (first_number p l z ≡ 0 → ⊥) → file_out (refused_by (first_number p l z)) c ≡ file_out_by (refusal_by p l z x) F c
-  unfolding first_number file_out_by close_number
-  by_stop true l z x h = refl
-  by_stop false true z x h = refl
-  by_stop false false true x h = refl
-  by_stop false false false x h = absurd (h refl)
+  by_stop : (p l z x : Bool) (y : Refusal) → Err y ≡ first_refusal p l z → file_out (Err y) c ≡ file_out_by (refusal_by p l z x) F c
+  unfolding first_refusal file_out_by of_close_reason
+  by_stop true l z x y h = ap (λ (r : Result FileReport Refusal). file_out r c) (again h)
+  by_stop false true z x y h = ap (λ (r : Result FileReport Refusal). file_out r c) (again h)
+  by_stop false false true x y h = ap (λ (r : Result FileReport Refusal). file_out r c) (again h)
+  by_stop false false false x y h = let n : ⊥ = cc in absurd n
 
-  no_stop : (p l z x : Bool) → first_number p l z ≡ 0 → refusal_by p l z x ≡ cond x (some too_high) none
-  unfolding first_number
-  no_stop true l z x h = absurd (omega (arith, h))
-  no_stop false true z x h = absurd (omega (arith, h))
-  no_stop false false true x h = absurd (omega (arith, h))
+  no_stop : (p l z x : Bool) {u : Unit {0}} → Ok u ≡ first_refusal p l z → refusal_by p l z x ≡ cond x (some too_high) none
+  unfolding first_refusal
+  no_stop true l z x h = let n : ⊥ = cc in absurd n
+  no_stop false true z x h = let n : ⊥ = cc in absurd n
+  no_stop false false true x h = let n : ⊥ = cc in absurd n
   no_stop false false false x h = refl
 
 module _ {t : Site} {n : ℕ} {k : Tallies} {w : Blocks} {ps xs ks : List ℕ} (fit : FileFits t n k w ps xs ks) (c : List ℕ) where
@@ -61,10 +68,10 @@ module _ {t : Site} {n : ℕ} {k : Tallies} {w : Blocks} {ps xs ks : List ℕ} (
   abbrev defaults : List Bool
   defaults = default_years (history_years t.al t.filiere).count (cases_of t.meter (history_years t.al t.filiere).count curves indexes)
 
-  abbrev stop : ℕ
+  abbrev stop : Result (Unit {0}) Refusal
   stop = data_refusal (history_years t.al t.filiere) k.profile_dates k.daily_dates indexes defaults ps n (totals_of ps w.daily n)
 
-  stop_is : stop ≡ first_number (close_holds partial F') (close_holds no_data F') (close_holds zero_total F')
+  stop_is : stop ≡ first_refusal (close_holds partial F') (close_holds no_data F') (close_holds zero_total F')
   unfolding data_refusal history_of_site
   stop_is =
       rw (
@@ -74,25 +81,24 @@ module _ {t : Site} {n : ℕ} {k : Tallies} {w : Blocks} {ps xs ks : List ℕ} (
       )
 
   -- refused by 15, 16 or 17
-  pub stopped : (m : ℕ) → m ≡ stop → (m ≡ 0 → ⊥) → file_out (refused_by m) c ≡ file_out_of F' c
+  pub stopped : (y : Refusal) → Err y ≡ stop → file_out (Err y) c ≡ file_out_of F' c
   unfolding file_out_of
-  stopped m e h =
-      let q = e ∙ stop_is in
-      ap (λ (x : ℕ). file_out (refused_by x) c) q
-      ∙ by_stop F' c (close_holds partial F') (close_holds no_data F') (close_holds zero_total F') (close_holds too_high F') (λ z. h (q ∙ z))
+  stopped y e =
+      by_stop F' c (close_holds partial F') (close_holds no_data F') (close_holds zero_total F') (close_holds too_high F') y (e ∙ stop_is)
       ∙ ap (λ (o : Option CloseReason). file_out_by o F' c) (sym refusal_is)
 
-  passed : (m : ℕ) → m ≡ stop → m ≡ 0 → (x : Bool) → close_holds too_high F' ≡ x → closing_refusal F' ≡ cond x (some too_high) none
-  passed m e z x h =
-      refusal_is ∙ no_stop F' c (close_holds partial F') (close_holds no_data F') (close_holds zero_total F') (close_holds too_high F') (sym stop_is ∙ sym e ∙ z)
-      ∙ ap (λ (b : Bool). cond b (some too_high) none) h
+  module _ {u : Unit {0}} (e : Ok u ≡ stop) where
+    passed : (x : Bool) → close_holds too_high F' ≡ x → closing_refusal F' ≡ cond x (some too_high) none
+    passed x h =
+        refusal_is ∙ no_stop F' c (close_holds partial F') (close_holds no_data F') (close_holds zero_total F') (close_holds too_high F') (e ∙ stop_is)
+        ∙ ap (λ (b : Bool). cond b (some too_high) none) h
 
-  -- refused by 18
-  pub exceeded : (m : ℕ) → m ≡ stop → m ≡ 0 → close_holds too_high F' ≡ true → file_out (refused_by 18) c ≡ file_out_of F' c
-  unfolding file_out_of file_out_by close_number
-  exceeded m e z h = ap (λ (o : Option CloseReason). file_out_by o F' c) (sym (passed m e z true h))
+    -- refused by 18
+    pub exceeded : close_holds too_high F' ≡ true → file_out (Err TooHigh) c ≡ file_out_of F' c
+    unfolding file_out_of file_out_by of_close_reason
+    exceeded h = ap (λ (o : Option CloseReason). file_out_by o F' c) (sym (passed true h))
 
-  -- reported
-  pub reports : (m : ℕ) → m ≡ stop → m ≡ 0 → close_holds too_high F' ≡ false → file_out (report_repr (report_of F')) (curve_of F') ≡ file_out_of F' c
-  unfolding file_out_of file_out_by
-  reports m e z h = ap (λ (o : Option CloseReason). file_out_by o F' c) (sym (passed m e z false h))
+    -- reported
+    pub reports : close_holds too_high F' ≡ false → file_out (Ok (report_repr (report_of F'))) (curve_of F') ≡ file_out_of F' c
+    unfolding file_out_of file_out_by
+    reports h = ap (λ (o : Option CloseReason). file_out_by o F' c) (sym (passed false h))

@@ -1,6 +1,5 @@
 -- What a close promises of a record and its blocks, from the result of the close of its file.
 use mathlib.Core.Path.{◌≡◌, refl, ap, ap₂, sym, subst, ◌∙◌}
-use mathlib.Core.Logic.{◌⊎◌, inl, inr}
 use mathlib.Core.Bool.{Bool, true, false, ◌&&◌, not, cond}
 use mathlib.Core.List.{List}
 use mathlib.Core.Option.{Option, some, none}
@@ -21,8 +20,11 @@ use Rattle.meaning.specs.Record.{refused_state, closed_state, is_open, Rec, in_s
 use Rattle.meaning.specs.Calls.{refused, reported, out, with_curve, close_by, close_of}
 use Rattle.demands.proofs.Bound.Counted.{some_point}
 use Rattle.readings.specs.Columns.{Columned}
-use Rattle.close.specs.declared.outcome.file.FileOutcome.{FileOutcome}
-use Rattle.close.specs.FileOutcomes.{refused_by}
+use Rattle.std.specs.Prelude.{Result, Ok, Err}
+use Rattle.refusals.specs.declared.Refusal.{Refusal}
+use Rattle.refusals.specs.Refusals.{refusal_number, of_close_reason}
+use Rattle.refusals.proofs.Laws.{close_numbers}
+use Rattle.close.specs.declared.outcome.file.FileReport.{FileReport}
 use Rattle.close.specs.Closes.{FileFits, FileOut, file_out, report_repr, file_out_by, file_out_of}
 use Rattle.close.proofs.FileFacts.{site_words}
 use Rattle.close.proofs.Years.{YearsReported, years_reported}
@@ -124,7 +126,7 @@ not_unended F e = go (close_holds no_end F) (close_holds partial F) (close_holds
     go false false false false false h = refl
 
 -- ---- the result, for the filing in record and blocks
-pub record Reported (s : Rec) (w : Blocks) (r : FileOutcome) (c : List ℕ) : Type 0 where
+pub record Reported (s : Rec) (w : Blocks) (r : FileReport) (c : List ℕ) : Type 0 where
   pub result : close_by (closing_refusal (filing_of s w)) s w ≡ out (reported (report_of (filing_of s w))) (in_state closed_state s.count s) (with_curve w c)
   pub closing : r ≡ report_repr (report_of (filing_of s w))
   pub level : r.level ≡ (report_of (filing_of s w)).level
@@ -132,7 +134,7 @@ pub record Reported (s : Rec) (w : Blocks) (r : FileOutcome) (c : List ℕ) : Ty
   pub some : 0 < r.points
   pub years : YearsReported (filing_of s w)
 
-module _ (s : Rec) (w : Blocks) (fits : (sizes_fit w && (rec_fits s && contents_fit s w)) ≡ true) (e : s.last ≡ 8) (r : FileOutcome) (c : List ℕ)
+module _ (s : Rec) (w : Blocks) (fits : (sizes_fit w && (rec_fits s && contents_fit s w)) ≡ true) (e : s.last ≡ 8) (r : Result FileReport Refusal) (c : List ℕ)
     (back : file_out r c ≡ file_out_of (filing_held s.site s.readings s.tallies true w) w.curve) where
   abbrev F : Filing
   F = filing_of s w
@@ -159,46 +161,56 @@ module _ (s : Rec) (w : Blocks) (fits : (sizes_fit w && (rec_fits s && contents_
   low k q z = let d : is_unended (closing_refusal F) ≡ true = ap is_unended (q ∙ ap some z) in subst T (sym d ∙ not_unended F is_ended) tt
 
   -- refused by 15 to 18: the curve is left
-  pub close_refuses : (r.number ≡ 0 → ⊥) → close_by (closing_refusal F) s w ≡ out (refused r.number s.count) (in_state refused_state s.count s) (with_curve w c)
-  unfolding file_out_by report_repr refused_by close_by with_curve
-  close_refuses n = go (closing_refusal F) refl
+  pub close_refuses : (y : Refusal) → r ≡ Err y → close_by (closing_refusal F) s w ≡ out (refused (refusal_number y) s.count) (in_state refused_state s.count s) (with_curve w c)
+  unfolding file_out_by close_by with_curve
+  close_refuses y n = go (closing_refusal F) refl
     where
-      go : (o : Option CloseReason) → closing_refusal F ≡ o → close_by o s w ≡ out (refused r.number s.count) (in_state refused_state s.count s) (with_curve w c)
-      go none q = absurd (n (ap (λ (x : FileOut). x.closing.number) (handed none q)))
+      go : (o : Option CloseReason) → closing_refusal F ≡ o → close_by o s w ≡ out (refused (refusal_number y) s.count) (in_state refused_state s.count s) (with_curve w c)
+      go none q =
+          let d : r ≡ Ok (report_repr (report_of F)) = ap (λ (x : FileOut). x.closing) (handed none q) in
+          let z : ⊥ = cc in
+          absurd z
       go (some k) q =
+          let d : r ≡ Err (of_close_reason k) = ap (λ (x : FileOut). x.closing) (handed (some k) q) in
+          let g : of_close_reason k ≡ y = cc in
           ap₂ (λ (m : ℕ) (l : List ℕ). out (refused m s.count) (in_state refused_state s.count s) (with_curve w l))
-          (sym (ap (λ (x : FileOut). x.closing.number) (handed (some k) q)))
+          (sym (close_numbers k) ∙ ap refusal_number g)
           (sym (ap (λ (x : FileOut). x.curve) (handed (some k) q)))
 
   -- reported
-  pub close_reports : r.number ≡ 0 → Reported s w r c
-  unfolding file_out_by close_by report_repr report_of refused_by
-  close_reports z = go (closing_refusal F) refl
+  pub close_reports : (f : FileReport) → r ≡ Ok f → Reported s w f c
+  unfolding file_out_by close_by report_repr report_of
+  close_reports f z = go (closing_refusal F) refl
     where
-      go : (o : Option CloseReason) → closing_refusal F ≡ o → Reported s w r c
+      go : (o : Option CloseReason) → closing_refusal F ≡ o → Reported s w f c
       go none q =
-          let h : r ≡ report_repr (report_of F) = ap (λ (x : FileOut). x.closing) (handed none q) in
+          let d : r ≡ Ok (report_repr (report_of F)) = ap (λ (x : FileOut). x.closing) (handed none q) in
+          let h : f ≡ report_repr (report_of F) = cc in
           let l : c ≡ curve_of F = ap (λ (x : FileOut). x.curve) (handed none q) in
           record {
             result = ap (λ (x : Option CloseReason). close_by x s w) q ∙ ap (λ (ys : List ℕ). out (reported (report_of F)) (in_state closed_state s.count s) (with_curve w ys)) (sym l);
             closing = h;
-            level = ap (λ (x : FileOutcome). x.level) h;
-            points = ap (λ (x : FileOutcome). x.points) h;
+            level = ap (λ (x : FileReport). x.level) h;
+            points = ap (λ (x : FileReport). x.points) h;
             some = rw h (some_point F is_known_lem);
             years = years_reported F is_known_lem;
           }
       go (some k) q =
-          let d : r.number ≡ close_number k = ap (λ (x : FileOut). x.closing.number) (handed (some k) q) in
-          absurd (omega (arith, d, z, (number_range k (low k q)).0))
+          let d : r ≡ Err (of_close_reason k) = ap (λ (x : FileOut). x.closing) (handed (some k) q) in
+          let n : ⊥ = cc in
+          absurd n
 
-  -- 0, or 15 to 18
-  pub close_number_lem : (r.number ≡ 0) ⊎ ((15 ≤ r.number) × (r.number ≤ 18))
-  unfolding file_out_by report_repr refused_by
-  close_number_lem = go (closing_refusal F) refl
+  -- 15 to 18
+  pub close_number_lem : (y : Refusal) → r ≡ Err y → (15 ≤ refusal_number y) × (refusal_number y ≤ 18)
+  unfolding file_out_by
+  close_number_lem y z = go (closing_refusal F) refl
     where
-      go : (o : Option CloseReason) → closing_refusal F ≡ o → (r.number ≡ 0) ⊎ ((15 ≤ r.number) × (r.number ≤ 18))
-      go none q = inl (ap (λ (x : FileOut). x.closing.number) (handed none q))
+      go : (o : Option CloseReason) → closing_refusal F ≡ o → (15 ≤ refusal_number y) × (refusal_number y ≤ 18)
+      go none q =
+          let d : r ≡ Ok (report_repr (report_of F)) = ap (λ (x : FileOut). x.closing) (handed none q) in
+          let n : ⊥ = cc in
+          absurd n
       go (some k) q =
-          let d : r.number ≡ close_number k = ap (λ (x : FileOut). x.closing.number) (handed (some k) q) in
-          let b = number_range k (low k q) in
-          inr (omega (arith, d, b.0), omega (arith, d, b.1))
+          let d : r ≡ Err (of_close_reason k) = ap (λ (x : FileOut). x.closing) (handed (some k) q) in
+          let g : y ≡ of_close_reason k = cc in
+          rw (g, close_numbers k) (number_range k (low k q))

@@ -26,7 +26,11 @@ use Rattle.progress.specs.declared.State.TheVariants as states
 use Rattle.progress.specs.declared.Progress.{Progress}
 use Rattle.progress.specs.ProgressViews.{state_view, rec_of}
 use Rattle.progress.proofs.StateLaws.{refused_where}
-use Rattle.close.specs.declared.outcome.file.FileOutcome.{FileOutcome}
+use Rattle.std.specs.Prelude.{Result, Ok, Err}
+use Rattle.refusals.specs.declared.Refusal.{Refusal}
+use Rattle.refusals.specs.declared.Refusal.TheVariants.{Unfit, NotOpen, NoEnd}
+use Rattle.refusals.specs.Refusals.{refusal_number}
+use Rattle.close.specs.declared.outcome.file.FileReport.{FileReport}
 use Rattle.close.specs.Closes as file
 use Rattle.close.specs.Closes.{FileFits, report_repr, file_out_of}
 use Rattle.close.proofs.FileClose.{filing_is, file_fits, close_of_lem, close_unended, close_refuses, close_reports}
@@ -41,21 +45,21 @@ use Rattle.answers.proofs.Laws.{none_refused}
 use Rattle.close.proofs.Laws.{within, all_fit_lem}
 
 -- ---- 1, 13 and 14
-stopped_out : (s : Rec) (w : Blocks) (n : ℕ) → n ≡ ended_refusal (sizes_fit w && (rec_fits s && contents_fit s w)) s.state s.last → (n ≡ 0 → ⊥)
-    → close_out (Refused n s.count) (in_state (cond (eqb n 14) refused_state s.state) s.count s) no_years w ≡ close_repr (close_of s w)
-unfolding close_of leaves close_repr answer_repr years_beside in_state ended_refusal
-stopped_out s w n q h = go (sizes_fit w && (rec_fits s && contents_fit s w)) (is_open s.state) (eqb s.last 8) refl q
+stopped_out : (s : Rec) (w : Blocks) (y : Refusal) → Err y ≡ ended_refusal (sizes_fit w && (rec_fits s && contents_fit s w)) s.state s.last
+    → close_out (Refused (refusal_number y) s.count) (in_state (cond (eqb (refusal_number y) 14) refused_state s.state) s.count s) no_years w ≡ close_repr (close_of s w)
+unfolding close_of leaves close_repr answer_repr years_beside in_state ended_refusal refusal_number
+stopped_out s w y q = go (sizes_fit w && (rec_fits s && contents_fit s w)) (is_open s.state) (eqb s.last 8) refl q
   where
     told : Out → CloseOut
     told u = close_out (answer_repr u.answer) u.after (years_beside u.answer) u.blocks
 
-    go : (b x y : Bool) → eqb s.last 8 ≡ y → n ≡ cond b (cond x (cond y 0 14) 13) 1
-        → told (out (refused n s.count) (in_state (cond (eqb n 14) refused_state s.state) s.count s) w)
+    go : (b x l : Bool) → eqb s.last 8 ≡ l → ◌≡◌ {A = Result (Unit {0}) Refusal} (Err y) (cond b (cond x (cond l (Ok tt) (Err NoEnd)) (Err NotOpen)) (Err Unfit))
+        → told (out (refused (refusal_number y) s.count) (in_state (cond (eqb (refusal_number y) 14) refused_state s.state) s.count s) w)
         ≡ told (cond b (cond x (close_by (closing_refusal (filing_of s w)) s w) (leaves 13 s w)) (leaves 1 s w))
-    go true true true f q = absurd (h q)
-    go true true false f q = rw (q, close_unended s w (λ z. subst T (sym (eq-eqb s.last 8 z) ∙ f) tt))
-    go true false y f q = rw q
-    go false x y f q = rw q
+    go true true true f q = let n : ⊥ = cc in absurd n
+    go true true false f q = let e : y ≡ NoEnd = cc in rw (e, close_unended s w (λ z. subst T (sym (eq-eqb s.last 8 z) ∙ f) tt))
+    go true false l f q = let e : y ≡ NotOpen = cc in rw e
+    go false x l f q = let e : y ≡ Unfit = cc in rw e
 
 -- ---- the close of the file
 -- AL and filière in the report
@@ -63,20 +67,20 @@ report_site : (s : Rec) (w : Blocks) → s.last ≡ 8 → ((report_of (filing_of
 unfolding report_of filing_held
 report_site s w l = (ap (λ (F : Filing). F.site.al) (filing_is s w l), ap (λ (F : Filing). F.site.filiere) (filing_is s w l))
 
-module _ (s : Rec) (w : Blocks) (e : (sizes_fit w && (rec_fits s && contents_fit s w)) ≡ true) (h : is_open s.state ≡ true) (l : s.last ≡ 8) (k : FileOutcome) (c : List ℕ)
+module _ (s : Rec) (w : Blocks) (e : (sizes_fit w && (rec_fits s && contents_fit s w)) ≡ true) (h : is_open s.state ≡ true) (l : s.last ≡ 8) (k : Result FileReport Refusal) (c : List ℕ)
     (back : file.file_out k c ≡ file_out_of (filing_held s.site s.readings s.tallies true w) w.curve) where
-  told_refused : (k.number ≡ 0 → ⊥) → close_out (Refused k.number s.count) (in_state refused_state s.count s) no_years (with_curve w c) ≡ close_repr (close_of s w)
+  told_refused : (y : Refusal) → k ≡ Err y → close_out (Refused (refusal_number y) s.count) (in_state refused_state s.count s) no_years (with_curve w c) ≡ close_repr (close_of s w)
   unfolding close_repr answer_repr years_beside
-  told_refused n = rw (close_of_lem s w e h, close_refuses s w e l k c back n)
+  told_refused y n = rw (close_of_lem s w e h, close_refuses s w e l k c back y n)
 
-  told_reported : k.number ≡ 0 → close_out (Reported s.site.al s.site.filiere k.level k.points) (in_state closed_state s.count s) k.years (with_curve w c) ≡ close_repr (close_of s w)
+  told_reported : (f : FileReport) → k ≡ Ok f → close_out (Reported s.site.al s.site.filiere f.level f.points) (in_state closed_state s.count s) f.years (with_curve w c) ≡ close_repr (close_of s w)
   unfolding close_repr answer_repr years_beside report_repr
-  told_reported z =
-      let r = close_reports s w e l k c back z in
+  told_reported f z =
+      let r = close_reports s w e l k c back f z in
       let t = report_site s w l in
-      rw (close_of_lem s w e h, r.result, r.level, r.points, ap (λ (x : FileOutcome). x.years) r.closing, t.0, t.1)
+      rw (close_of_lem s w e h, r.result, r.level, r.points, ap (λ (x : FileReport). x.years) r.closing, t.0, t.1)
 
-module _ (st : State) (n : ℕ) (p : Progress) (near far slots daily : List ℕ) (k : Columns) (r : ℕ) (c : List ℕ) (m : ℕ)
+module _ (st : State) (n : ℕ) (p : Progress) (near far slots daily : List ℕ) (k : Columns) (r : ℕ) (c : List ℕ) (m : Result (Unit {0}) Refusal)
     (asked : m ≡ ended_refusal (all_fit (rec_of st n p) r (length c) (lent_blocks_in near far slots daily k.positions k.indexes k.kinds [])) (state_view st) p.last) where
   -- the blocks with the readings of the columns, and a curve
   abbrev held : List ℕ → Blocks
@@ -94,15 +98,16 @@ module _ (st : State) (n : ℕ) (p : Progress) (near far slots daily : List ℕ)
       ∙ ap (λ (b : Bool). ended_refusal b (state_view st) p.last)
       (all_fit_lem (rec_of st n p) (lent_blocks near far slots daily (readings_view rs) c) r k.positions k.indexes k.kinds (seen_length rs ∙ er) (same rs er ek))
 
-  pub refused_close : (m ≡ 0 → ⊥) → (x : State) → x ≡ cond (eqb m 14) states.Refused st → (o : CloseOutcome) → o ≡ refused_of x n m
+  pub refused_close : (y : Refusal) → m ≡ Err y → (x : State) → x ≡ cond (eqb (refusal_number y) 14) states.Refused st → (o : CloseOutcome) → o ≡ refused_of x n y
       → EachColumns r k (λ rs. close_outcome_view o n p (lent_blocks near far slots daily (readings_view rs) c) ≡ close_repr (close_of (rec_of st n p) (lent_blocks near far slots daily (readings_view rs) c)))
   unfolding in_state
-  refused_close h x ex o e rs er ek = rw (e, ex, refused_where (eqb m 14) st) (stopped_out (rec_of st n p) (lent_blocks near far slots daily (readings_view rs) c) m (stop_is rs er ek) h)
+  refused_close y h x ex o e rs er ek =
+      rw (e, ex, refused_where (eqb (refusal_number y) 14) st) (stopped_out (rec_of st n p) (lent_blocks near far slots daily (readings_view rs) c) y (sym h ∙ stop_is rs er ek))
 
   -- ---- none of them
-  module _ (z : m ≡ 0) where
+  module _ {u : Unit {0}} (z : m ≡ Ok u) where
     passes : (all_fit (rec_of st n p) r (length c) (held []) ≡ true) × (is_open (state_view st) ≡ true) × (p.last ≡ 8)
-    passes = none_refused (all_fit (rec_of st n p) r (length c) (held [])) (state_view st) p.last m asked z
+    passes = none_refused (all_fit (rec_of st n p) r (length c) (held [])) (state_view st) p.last (sym z ∙ asked)
 
     whole : r ≡ readings_size
     unfolding all_fit lengths_fit
@@ -129,16 +134,14 @@ module _ (st : State) (n : ℕ) (p : Progress) (near far slots daily : List ℕ)
         fitting
         passes.2
 
-    module _ (f : FileOutcome) (y : List ℕ) (back : file.file_out f y ≡ file_out_of (filing_held (rec_of st n p).site p.readings (rec_of st n p).tallies true (held c)) c) where
+    module _ (f : Result FileReport Refusal) (y : List ℕ) (back : file.file_out f y ≡ file_out_of (filing_held (rec_of st n p).site p.readings (rec_of st n p).tallies true (held c)) c) where
       told : close_outcome_view (close_outcome_of n p.site f) n p (held y) ≡ close_repr (close_of (rec_of st n p) (held c))
       unfolding close_outcome_of with_curve in_state
-      told = go (eqb f.number 0) refl
+      told = go f refl
         where
-          go : (b : Bool) → eqb f.number 0 ≡ b
-              → close_outcome_view (cond b (record { answer = Reported p.site.al p.site.filiere f.level f.points; state = states.Closed; years = f.years }) (refused_of states.Refused n f.number)) n p (held y)
-              ≡ close_repr (close_of (rec_of st n p) (held c))
-          go true e = told_reported (rec_of st n p) (held c) fitting passes.1 passes.2 f y back (eqb→eq f.number 0 (subst T (sym e) tt))
-          go false e = told_refused (rec_of st n p) (held c) fitting passes.1 passes.2 f y back (λ q. subst T (sym (eq-eqb f.number 0 q) ∙ e) tt)
+          go : (g : Result FileReport Refusal) → f ≡ g → close_outcome_view (close_outcome_of n p.site g) n p (held y) ≡ close_repr (close_of (rec_of st n p) (held c))
+          go (Ok x) e = told_reported (rec_of st n p) (held c) fitting passes.1 passes.2 f y back x e
+          go (Err v) e = told_refused (rec_of st n p) (held c) fitting passes.1 passes.2 f y back v e
 
       pub told_close : (o : CloseOutcome) → o ≡ close_outcome_of n p.site f
           → EachColumns r k (λ rs. close_outcome_view o n p (lent_blocks near far slots daily (readings_view rs) y) ≡ close_repr (close_of (rec_of st n p) (lent_blocks near far slots daily (readings_view rs) c)))

@@ -1,16 +1,18 @@
 -- The result of a close: answer, record, ten years and the lent blocks (document 01, Calls).
-use Rattle.std.specs.Prelude.{cond, List, ℕ, eqb, replicate}
+use Rattle.std.specs.Prelude.{List, ℕ, replicate, Result, Ok, Err}
 use Rattle.meaning.specs.Blocks.{Blocks}
 use Rattle.meaning.specs.Record.{Rec}
 use Rattle.meaning.specs.Calls as meant
 use Rattle.meaning.specs.Calls.{Out, accepted, refused, reported}
+use Rattle.refusals.specs.declared.Refusal.{Refusal}
+use Rattle.refusals.specs.Refusals.{refusal_number}
 use Rattle.line_form.specs.declared.Site.{Site}
 use Rattle.progress.specs.declared.State.{State}
 use Rattle.progress.specs.declared.State.TheVariants as states
 use Rattle.progress.specs.declared.Progress.{Progress}
 use Rattle.progress.specs.ProgressViews.{rec_of}
 use Rattle.close.specs.declared.outcome.file.YearRow.{YearRow}
-use Rattle.close.specs.declared.outcome.file.FileOutcome.{FileOutcome}
+use Rattle.close.specs.declared.outcome.file.FileReport.{FileReport}
 use Rattle.close.specs.FileOutcomes.{no_year, years_repr}
 use Rattle.answers.specs.declared.Answer.{Answer}
 use Rattle.answers.specs.declared.Answer.TheVariants.{Accepted, Refused, Reported}
@@ -47,13 +49,11 @@ unfoldable pub close_repr : Out → CloseOut
 close_repr o = close_out (answer_repr o.answer) o.after (years_beside o.answer) o.blocks
 
 -- ---- results
--- a refusal by its number, which leaves a record of n lines in a state
-abbrev pub refused_of : State → ℕ → ℕ → CloseOutcome
-refused_of st n k = record { answer = Refused k n; state = st; years = no_years }
+-- a refusal, which leaves a record of n lines in a state
+abbrev pub refused_of : State → ℕ → Refusal → CloseOutcome
+refused_of st n y = record { answer = Refused (refusal_number y) n; state = st; years = no_years }
 
 -- the close of a file: a refusal by 15 to 18 marks the record refused, a report closes it
-unfoldable pub close_outcome_of : ℕ → Site → FileOutcome → CloseOutcome
-close_outcome_of n t k =
-    cond (eqb k.number 0)
-    (record { answer = Reported t.al t.filiere k.level k.points; state = states.Closed; years = k.years })
-    (refused_of states.Refused n k.number)
+unfoldable pub close_outcome_of : ℕ → Site → Result FileReport Refusal → CloseOutcome
+close_outcome_of n t (Ok f) = record { answer = Reported t.al t.filiere f.level f.points; state = states.Closed; years = f.years }
+close_outcome_of n t (Err y) = refused_of states.Refused n y

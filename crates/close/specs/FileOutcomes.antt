@@ -1,10 +1,10 @@
--- The result of the close of a file: a refusal's number, or level, points and years (document 01, Calls; The printed sheet).
-use Rattle.std.specs.Prelude.{List, map, ℕ, get_or, replicate}
+-- The report of a file: level, points and years (document 01, Calls; The printed sheet).
+use Rattle.std.specs.Prelude.{List, map, ℕ, get_or}
 use Rattle.lists.specs.Lists.{tab}
 use Rattle.meaning.specs.Level.{YearReport}
 use Rattle.meaning.specs.Text.{letter_of_case}
 use Rattle.close.specs.declared.outcome.file.YearRow.{YearRow}
-use Rattle.close.specs.declared.outcome.file.FileOutcome.{FileOutcome}
+use Rattle.close.specs.declared.outcome.file.FileReport.{FileReport}
 
 abbrev pub year_row : ℕ → ℕ → ℕ → YearRow
 year_row y c p = record { year = y; case = c; present = p }
@@ -13,11 +13,8 @@ year_row y c p = record { year = y; case = c; present = p }
 abbrev pub no_year : YearRow
 no_year = year_row 0 0 0
 
-abbrev pub closing : ℕ → ℕ → ℕ → List YearRow → FileOutcome
-closing n l p ys = record { number = n; level = l; points = p; years = ys }
-
-unfoldable pub refused_by : ℕ → FileOutcome
-refused_by n = closing n 0 0 (replicate 10 no_year)
+abbrev pub file_report : ℕ → ℕ → List YearRow → FileReport
+file_report l p ys = record { level = l; points = p; years = ys }
 
 -- ---- the years of a report
 unfoldable pub year_repr : YearReport → YearRow

@@ -9,8 +9,8 @@ use Rattle.history.specs.Years.{by_history}
 use Rattle.curve.specs.declared.CurveTotals.{CurveTotals}
 use Rattle.curve.specs.Places.{ncc_of}
 use Rattle.close.specs.declared.outcome.file.YearRow.{YearRow}
-use Rattle.close.specs.declared.outcome.file.FileOutcome.{FileOutcome}
-use Rattle.close.specs.FileOutcomes.{year_row, no_year, closing}
+use Rattle.close.specs.declared.outcome.file.FileReport.{FileReport}
+use Rattle.close.specs.FileOutcomes.{year_row, no_year, file_report}
 
 -- from a year's case and its points present
 unfoldable pub row_in : ℕ → Case → ℕ → YearRow
@@ -19,5 +19,5 @@ row_in y case present = year_row y (letter_of_case (case_view case)) present
 unfoldable pub rows_in : Years → List Case → List ℕ → List YearRow
 rows_in history cases present = by_history history.count no_year (λ k. row_in (history.first + k) (get_or cases k M) (get_or present k 0))
 
-unfoldable pub reported_by : ℕ → ℕ → Years → List Case → CurveTotals → FileOutcome
-reported_by al f history cases x = closing 0 (ncc_of al f x.sum x.counted) x.counted (rows_in history cases x.present)
+unfoldable pub reported_by : ℕ → ℕ → Years → List Case → CurveTotals → FileReport
+reported_by al f history cases x = file_report (ncc_of al f x.sum x.counted) x.counted (rows_in history cases x.present)

@@ -1,108 +1,90 @@
 // The close of a file: 15 to 18, the curve and the report.
-ghost use Rattle.std.specs.Prelude.{◌≡◌, true, replicate};
-ghost use Rattle.curve.specs.YearPlaces.{file_data_with};
+ghost use Rattle.std.specs.Prelude.{◌≡◌, true};
 ghost use Rattle.line_form.specs.Views.{site_view};
 ghost use Rattle.progress.specs.TallyViews.{tallies_view};
-ghost use Rattle.meaning.specs.Level.{missing_entry};
 ghost use Rattle.meaning.specs.Record.{filing_held};
 ghost use Rattle.readings.specs.Columns.{lent_blocks_in};
-ghost use Rattle.history.specs.Years.{cas_from};
-ghost use Rattle.curve.specs.Places.{site_factors_of};
-ghost use Rattle.curve.specs.Fits.{SiteFits, ListsFit, CurveTotalsAre};
 ghost use Rattle.close.specs.Closes.{FileFits, file_out, file_out_of};
 
-use crate::outcome::FileOutcome;
+use crate::ReadBlocks;
+use crate::outcome::FileReport;
+use crate::report::reported;
 use blocks::NO_ENTRY;
 use close_checks::data_refusal;
-use curve::CurveTotals;
-use history::{Case, ValidYears};
-use line_form::Site;
-use progress::Tallies;
+use curve::FileData;
+use progress::Progress;
+use readings::Columns;
+use refusals::Refusal;
 
-// Fills the curve of all years, whose entries are all missing before. It stands alone to take `Tallies` apart, so that its rates can be lent.
-fn fill_curve<'a>(
-    site: Site,
-    tallies: Tallies,
-    valid: ValidYears,
-    cases: [Case; 10],
-    near: &'a [u32],
-    far: &'a [u32],
-    slots: &[u16],
-    energies: &[u64; 4392],
-    totals: &[u64; 4392],
-    curve: &mut [u64; 4400],
-) -> CurveTotals
-    requires site_fits { SiteFits site.al site.filiere site.ps × ListsFit site.al near.now far.now slots.now energies.now totals.now tallies.rates }
-    requires curve_value { curve.old ≡ replicate 4400 missing_entry }
-    ensures { CurveTotalsAre (site_factors_of site.al site.filiere site.ps) (file_data_with near.now far.now slots.now energies.now totals.now valid (cas_from (site_factors_of site.al site.filiere site.ps).first site.filiere)) cases tallies.rates curve.new result }
-{
-    let rates = tallies.rates;
-    curve::fill(
-        site.al,
-        site.filiere,
-        site.ps,
-        near,
-        far,
-        slots,
-        energies,
-        totals,
-        valid,
-        cases,
-        &rates,
-        curve,
-    )
-}
-
-// Closes a file, from its site, n readings, numbers by year and the lent blocks. The curve is computed in an array of its own and stored only where
-// nothing is refused. The columns are lent one by one: a struct of 600 readings would be copied.
-pub(crate) fn close_file<'a>(
-    site: Site,
-    n: u64,
-    tallies: Tallies,
-    near: &'a [u32],
-    far: &'a [u32],
-    slots: &[u16],
-    daily: &[u32],
-    positions: &[u32],
-    indexes: &[u64],
-    kinds: &[u8],
+// Closes the file of a record, from its progress and the lent blocks, the readings as columns. The curve is computed in an array of its own and
+// stored only where nothing is refused.
+pub(crate) fn close_file(
+    progress: Progress,
+    blocks: ReadBlocks,
+    columns: &Columns,
     curve: &mut [u64],
-) -> FileOutcome
-    requires { FileFits (site_view site) n (tallies_view tallies) (lent_blocks_in near.now far.now slots.now daily.now positions.now indexes.now kinds.now curve.old) positions.now indexes.now kinds.now }
-    ensures { file_out result curve.new ≡ file_out_of (filing_held (site_view site) n (tallies_view tallies) true (lent_blocks_in near.now far.now slots.now daily.now positions.now indexes.now kinds.now curve.old)) curve.old }
+) -> Result<FileReport, Refusal>
+    requires { FileFits (site_view progress.site) progress.readings (tallies_view progress.tallies) (lent_blocks_in blocks.near.now blocks.far.now blocks.slots.now blocks.daily.now columns.now.positions columns.now.indexes columns.now.kinds curve.old) columns.now.positions columns.now.indexes columns.now.kinds }
+    ensures { file_out result curve.new ≡ file_out_of (filing_held (site_view progress.site) progress.readings (tallies_view progress.tallies) true (lent_blocks_in blocks.entry.near.now blocks.entry.far.now blocks.entry.slots.now blocks.entry.daily.now columns.now.positions columns.now.indexes columns.now.kinds curve.old)) curve.old }
 {
+    let site = progress.site;
+    let tallies = progress.tallies;
     let history = calendar::history(site.al, site.filiere);
     let years = history.count as usize;
-    let size = n as usize;
-    let meter = site.meter;
-    let breaks = tallies.breaks;
-    let valid = history::valid_years(site.al, history, breaks, near, far, positions, kinds, size);
-    let cases = history::cases_of(meter, valid, years);
+    let size = progress.readings as usize;
+    let valid = history::valid_years(
+        site.al,
+        history,
+        tallies.breaks,
+        blocks.near,
+        blocks.far,
+        &columns.positions,
+        &columns.kinds,
+        size,
+    );
+    let cases = history::cases_of(site.meter, valid, years);
     let defaults = history::default_years(cases, years);
     // E and daily total by position
     let mut e = [0u64; 4392];
     let mut totals = [0u64; 4392];
-    validity::by_position(positions, indexes, daily, size, &mut e, &mut totals);
-    let number = data_refusal(history, tallies, valid, defaults, positions, size, &totals);
-    if number != 0 {
-        return crate::outcome::refused(number);
-    }
-    let mut filled = [NO_ENTRY; 4400];
-    let f = fill_curve(
-        site,
+    validity::by_position(
+        &columns.positions,
+        &columns.indexes,
+        blocks.daily,
+        size,
+        &mut e,
+        &mut totals,
+    );
+    data_refusal(
+        history,
         tallies,
         valid,
-        cases,
-        near,
-        far,
-        slots,
-        &e,
+        defaults,
+        &columns.positions,
+        size,
         &totals,
+    )?;
+    let mut filled = [NO_ENTRY; 4400];
+    let file = FileData {
+        near: blocks.near,
+        far: blocks.far,
+        slots: blocks.slots,
+        energies: &e,
+        totals: &totals,
+        valid: &valid,
+    };
+    let f = curve::fill(
+        site.al,
+        site.filiere,
+        site.ps,
+        &file,
+        cases,
+        &tallies.rates,
         &mut filled,
     );
     curve::store_curve(f.exceeds, &filled, curve);
     if f.exceeds {
-        return crate::outcome::refused(18);
+        return Err(Refusal::TooHigh);
     }
-    crate::report::reported(site.al, site.filiere, history, cases, f)
+    Ok(reported(site.al, site.filiere, history, cases, f))
 }

@@ -1,6 +1,6 @@
-pub mod DayLaws
 pub mod ContentLaws
 pub mod Days
 pub mod Columns
 pub mod PartialYears
 pub mod Lacking
+pub mod Profiled

@@ -4,7 +4,7 @@ mod profile_blocks; // profile values
 mod reading_blocks; // the counted readings
 mod winter_blocks; // points
 
-ghost use Rattle.std.specs.Prelude.{◌≡◌, ◌-◌, ◌≤◌, length};
+ghost use Rattle.std.specs.Prelude.{◌≡◌, ◌≤◌, length};
 ghost use Rattle.close_checks.specs.Contents.{contents_in};
 
 use crate::contents::axis_blocks::daily_fit;
@@ -13,17 +13,8 @@ use crate::contents::reading_blocks::readings_fit;
 use crate::contents::winter_blocks::points_fit;
 use calendar::Years;
 
-// The year some years before another, 0 where there is none: an AL is 0 until S is taken.
-fn years_before(year: u64, years: u64) -> u64
-    ensures { result ≡ year - years }
-{
-    if year < years {
-        return 0;
-    }
-    year - years
-}
-
-// Whether all blocks fit. The columns are lent one by one: a struct of 600 readings would be copied.
+// Whether all blocks fit; an AL is 0 until S is taken, and a year before 0 is 0. The columns are lent one by one: a struct of 600 readings would be copied.
+#[tactic(auto, unfolding(crate::specs::Contents::contents_in))]
 pub fn contents_fit(
     near: &[u32],
     far: &[u32],
@@ -41,17 +32,9 @@ pub fn contents_fit(
     requires al_bound { (al ≤ 9999) × ((history.first ≤ 9999) × (axis.first ≤ 9999)) }
     ensures { result ≡ contents_in history axis al near.now far.now slots.now daily.now positions.now indexes.now kinds.now n }
 {
-    if !points_fit(near, years_before(al, 9), history) {
-        return false;
-    }
-    if !points_fit(far, years_before(al, 14), history) {
-        return false;
-    }
-    if !slots_fit(slots, history) {
-        return false;
-    }
-    if !daily_fit(daily, axis) {
-        return false;
-    }
-    readings_fit(positions, indexes, kinds, n, axis)
+    points_fit(near, al.saturating_sub(9), history)
+        && points_fit(far, al.saturating_sub(14), history)
+        && slots_fit(slots, history)
+        && daily_fit(daily, axis)
+        && readings_fit(positions, indexes, kinds, n, axis)
 }

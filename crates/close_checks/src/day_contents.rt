@@ -12,39 +12,19 @@ const MOST_POWER: u32 = 100000000;
 pub(crate) fn points_on_day(points: &[u32], dated: bool) -> bool
     ensures { result ≡ all (point_fits dated) points.now }
 {
-    let mut i = 0;
-    while i < points.len() {
-        let v = points[i];
-        if !point_fits(dated, v) {
-            return false;
-        }
-        i += 1;
-    }
-    true
+    points.iter().all(|point| point_fits(dated, *point))
 }
 
+#[tactic(auto, unfolding(meaning::specs::Record::point_fits))]
 fn point_fits(dated: bool, v: u32) -> bool
     ensures { result ≡ point_fits dated v }
 {
-    if v == NO_POINT {
-        return true;
-    }
-    if !dated {
-        return false;
-    }
-    v <= MOST_POWER
+    v == NO_POINT || (dated && v <= MOST_POWER)
 }
 
 // Whether the profile values of a day without a date fit: all are 0.
 pub(crate) fn all_zero(slots: &[u16]) -> bool
     ensures { result ≡ all (slot_fits false) slots.now }
 {
-    let mut i = 0;
-    while i < slots.len() {
-        if slots[i] != 0 {
-            return false;
-        }
-        i += 1;
-    }
-    true
+    slots.iter().all(|slot| *slot == 0)
 }

@@ -1,8 +1,9 @@
 // The refusals 15, 16 and 17 of a close (document 01, Stops that come from the state).
-mod daily; // 16 on daily sums, over the intervals of valid index years
+mod daily; // 16 on daily sums, over the intervals from which a year is profiled
 mod dates; // 15, over the dates of each year
+mod first; // all of them, in order of checking
+mod profiled; // the intervals from which a valid-index year is profiled
 mod profiles; // 16 on profiles
-mod refusals; // all of them, in order of checking
-mod totals; // 17, over the intervals of valid index years
+mod totals; // 17, over the same intervals
 
-pub use refusals::data_refusal;
+pub use first::data_refusal;

@@ -9,6 +9,7 @@ use lib.Dec.{T, eqb, ltb}
 use lib.ListN.{length, get_or, length-map, get_or-append}
 use lib.Seq.{get_or-append-add}
 use borrow.Author.Tests.{lt-ltb, le-ltb, ltb-true, ltb-false, eqb-true, eqb-false}
+use Rattle.std.proofs.lemmas.List.{map-append}
 use Rattle.lists.specs.Lists.{any, tab, flat, present, sum}
 use Rattle.lists.proofs.Laws.{any_each, length_tab, get_d_tab0, each_map}
 use Rattle.lists.proofs.Tables.{tab_same}
@@ -29,7 +30,7 @@ use Rattle.history.specs.Years.{cas_from}
 use Rattle.curve.specs.PlaceSums.{point_in, exceeds_in, place_sum_of, entry_in}
 use Rattle.curve.specs.YearPlaces.{FileData, file_data}
 use Rattle.curve.specs.Places.{places_of, all_places_in, site_factors_of, present_years, curve_totals_of, curve_entry_in, curve_in, ncc_of}
-use Rattle.curve.proofs.PlaceSums.{any_join, map_join}
+use Rattle.curve.proofs.PlaceSums.{any_join}
 use Rattle.curve.proofs.Filings.{map_each, Means, few, year_is, all_is}
 
 -- ---- where 18 does not hold, every point is taken
@@ -70,7 +71,7 @@ day_entry : (g : CurvePlace → ℕ) (P : ℕ → ℕ → CurvePlace) (ws : List
 unfolding flat
 day_entry g P [] j h d l = rw (le-ltb j 0 (omega arith))
 day_entry g P (w ∷ ws) zero h d l =
-    ap (λ (xs : List ℕ). get_or xs (20 * 0 + h) d) (map_join g (tab 20 0 (P w)) (flat (map (λ v. tab 20 0 (P v)) ws)))
+    ap (λ (xs : List ℕ). get_or xs (20 * 0 + h) d) (map-append g (tab 20 0 (P w)) (flat (map (λ v. tab 20 0 (P v)) ws)))
     ∙ get_or-append (map g (tab 20 0 (P w))) (map g (flat (map (λ v. tab 20 0 (P v)) ws))) d (20 * 0 + h) (omega (arith, l, length-map (tab 20 0 (P w)) g, length_tab 20 0 (P w)))
     ∙ ap (λ (xs : List ℕ). get_or xs (20 * 0 + h) d) (map_tab g 20 0 (P w))
     ∙ (let e : 20 * 0 + h ≡ h = omega arith in ap (λ (m : ℕ). get_or (tab 20 0 (λ k. g (P w k))) m d) e)
@@ -80,7 +81,7 @@ day_entry g P (w ∷ ws) zero h d l =
     first_day : g (P w h) ≡ cond (ltb 0 (suc (length ws))) (g (P w h)) d
     first_day = rw (lt-ltb 0 (suc (length ws)) (omega arith))
 day_entry g P (w ∷ ws) (suc j) h d l =
-    ap (λ (xs : List ℕ). get_or xs (20 * suc j + h) d) (map_join g (tab 20 0 (P w)) (flat (map (λ v. tab 20 0 (P v)) ws)))
+    ap (λ (xs : List ℕ). get_or xs (20 * suc j + h) d) (map-append g (tab 20 0 (P w)) (flat (map (λ v. tab 20 0 (P v)) ws)))
     ∙ (let e : 20 * suc j + h ≡ length (map g (tab 20 0 (P w))) + (20 * j + h) = omega (arith, length-map (tab 20 0 (P w)) g, length_tab 20 0 (P w)) in
     ap (λ (m : ℕ). get_or (map g (tab 20 0 (P w)) ++ map g (flat (map (λ v. tab 20 0 (P v)) ws))) m d) e)
     ∙ get_or-append-add (map g (tab 20 0 (P w))) (map g (flat (map (λ v. tab 20 0 (P v)) ws))) (20 * j + h) d

@@ -5,4 +5,3 @@ pub mod Filings
 pub mod GivenFile
 pub mod Sites
 pub mod Years
-pub mod Copying

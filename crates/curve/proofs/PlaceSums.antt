@@ -9,6 +9,7 @@ use native.Mathlib.Omega.{arith}
 use lib.Dec.{eqb}
 use lib.ListN.{length, set, length-append, length-map}
 use lib.Seq.{sets}
+use Rattle.std.proofs.lemmas.List.{map-append}
 use Rattle.lists.specs.Lists.{any, present, sum}
 use Rattle.lists.proofs.Tests.{or_false, or_assoc}
 use Rattle.lists.proofs.Blocks.{sum_append}
@@ -17,8 +18,8 @@ use Rattle.rounding.proofs.Formulas.{rated_most}
 use Rattle.meaning.specs.Points.{Source, CurvePlace, rounded_point, source_exceeds, point_at, rated_by, with_rate}
 use Rattle.meaning.specs.Level.{entry_of}
 use Rattle.meaning.specs.Record.{rate_of_code}
-use Rattle.points.specs.declared.own.PlacePoint.{PlacePoint}
-use Rattle.points.specs.PlacePoints.{place_point_of, place_point_where}
+use Rattle.std.specs.Prelude.{Ok, Err, Some, None}
+use Rattle.points.specs.PlacePoints.{PlacePoint, place_point_of, place_point_where}
 use Rattle.points.specs.OwnFits.{PlacePointFits, PlacePointIs}
 use Rattle.points.specs.Fits.{RateFits}
 use Rattle.curve.specs.declared.place_sums.PlaceSum.{PlaceSum}
@@ -45,10 +46,6 @@ unfolding any
 any_join p [] ys = refl
 any_join p (x ∷ xs) ys = rw (any_join p xs ys) (sym (or_assoc (p x) (any p xs) (any p ys)))
 
-pub map_join : {A B : Type 0} (f : A → B) (xs ys : List A) → map f (xs ++ ys) ≡ map f xs ++ map f ys
-map_join f [] ys = refl
-map_join f (x ∷ xs) ys = ap (λ l. f x ∷ l) (map_join f xs ys)
-
 present_join : {A : Type 0} (os ps : List (Option A)) → present (os ++ ps) ≡ present os ++ present ps
 unfolding present
 present_join [] ps = refl
@@ -56,7 +53,7 @@ present_join (none ∷ os) ps = present_join os ps
 present_join (some x ∷ os) ps = ap (λ l. x ∷ l) (present_join os ps)
 
 points_join : (xs ys : List CurvePlace) → present (map point_in (xs ++ ys)) ≡ present (map point_in xs) ++ present (map point_in ys)
-points_join xs ys = ap present (map_join point_in xs ys) ∙ present_join (map point_in xs) (map point_in ys)
+points_join xs ys = ap present (map-append point_in xs ys) ∙ present_join (map point_in xs) (map point_in ys)
 
 pub tally_join : (xs ys : List CurvePlace) → place_sum_of (xs ++ ys) ≡ plus (place_sum_of xs) (place_sum_of ys)
 unfolding place_sum_of plus
@@ -70,7 +67,7 @@ tally_on t xs ys e = plus_assoc t (place_sum_of xs) (place_sum_of ys) ∙ sym (a
 
 pub entries_join : (xs ys : List CurvePlace) → entries_of (xs ++ ys) ≡ entries_of xs ++ entries_of ys
 unfolding entries_of
-entries_join xs ys = map_join entry_in xs ys
+entries_join xs ys = map-append entry_in xs ys
 
 sets_join : {A : Type 0} (l : List A) (i : ℕ) (xs ys : List A) → sets (sets l i xs) (i + length xs) ys ≡ sets l i (xs ++ ys)
 sets_join l i [] ys = rw (add-zero i)
@@ -124,9 +121,9 @@ rate_most rate p f h = go (eqb rate 0) refl
 
 pub one_fits : (rate : ℕ) (f : PlacePoint) (entry : ℕ) → RateFits rate → PlacePointFits f → entry ≡ entry_of_point rate f → PlaceSumFits 1 (sum_of_point entry f)
 unfolding sum_of_point entry_of_point
-one_fits rate PlacePoint.Missing entry r f e = record { sum = omega arith; counted = omega arith }
-one_fits rate PlacePoint.Exceeds entry r f e = record { sum = omega arith; counted = omega arith }
-one_fits rate (PlacePoint.Is p) entry r f e = record { sum = omega (arith, e, rate_most rate p.0 r f); counted = omega arith }
+one_fits rate (Ok None) entry r f e = record { sum = omega arith; counted = omega arith }
+one_fits rate (Err x) entry r f e = record { sum = omega arith; counted = omega arith }
+one_fits rate (Ok (Some p)) entry r f e = record { sum = omega (arith, e, rate_most rate p.0 r f); counted = omega arith }
 
 pub plus_fits : (m n : ℕ) (a b : PlaceSum) → PlaceSumFits m a → PlaceSumFits n b → PlaceSumFits (m + n) (plus a b)
 unfolding plus

@@ -18,7 +18,7 @@ use Rattle.note.proofs.PeakDays.{days_length}
 use Rattle.meaning.specs.Cases.{Case}
 use Rattle.meaning.specs.Points.{CurvePlace, Source}
 use Rattle.points.specs.declared.own.SiteFactors.{SiteFactors}
-use Rattle.points.specs.declared.own.PlacePoint.{PlacePoint}
+use Rattle.points.specs.PlacePoints.{PlacePoint}
 use Rattle.points.specs.OwnFits.{PlacePointIs}
 use Rattle.history.specs.declared.DayData.{DayData as YearsOnDay}
 use Rattle.history.specs.Years.{years_on, on_day, position_in}

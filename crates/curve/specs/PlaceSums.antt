@@ -1,11 +1,11 @@
 -- The places of a curve: their entries, sum and number (document 01, Cases; 18).
-use Rattle.std.specs.Prelude.{Bool, true, false, ◌||◌, cond, List, map, ℕ, ◌+◌, length}
+use Rattle.std.specs.Prelude.{Bool, true, false, ◌||◌, cond, List, map, ℕ, ◌+◌, length, Some, None, Ok, Err}
 use Rattle.std.proofs.Math.Option.{Option, none}
 use Rattle.lists.specs.Lists.{any, present, sum}
 use Rattle.meaning.specs.Points.{CurvePlace, Source, source_exceeds, point_at, with_rate}
 use Rattle.meaning.specs.Level.{missing_entry, entry_of}
 use Rattle.meaning.specs.Record.{rate_of_code}
-use Rattle.points.specs.declared.own.PlacePoint.{PlacePoint}
+use Rattle.points.specs.PlacePoints.{PlacePoint}
 use Rattle.curve.specs.declared.place_sums.PlaceSum.{PlaceSum}
 
 abbrev pub place_sum : Bool → ℕ → ℕ → PlaceSum
@@ -37,12 +37,12 @@ plus a b = place_sum (a.exceeds || b.exceeds) (a.sum + b.sum) (a.counted + b.cou
 
 -- ---- from the point of a place and its year's rate, 0 for none
 unfoldable pub entry_of_point : ℕ → PlacePoint → ℕ
-entry_of_point rate PlacePoint.Missing = missing_entry
-entry_of_point rate PlacePoint.Exceeds = missing_entry
-entry_of_point rate (PlacePoint.Is p) = with_rate (rate_of_code rate) p.0
+entry_of_point rate (Ok None) = missing_entry
+entry_of_point rate (Err e) = missing_entry
+entry_of_point rate (Ok (Some p)) = with_rate (rate_of_code rate) p.0
 
 -- the entry is counted where the point is present
 unfoldable pub sum_of_point : ℕ → PlacePoint → PlaceSum
-sum_of_point entry PlacePoint.Missing = place_sum false 0 0
-sum_of_point entry PlacePoint.Exceeds = place_sum true 0 0
-sum_of_point entry (PlacePoint.Is p) = place_sum false entry 1
+sum_of_point entry (Ok None) = place_sum false 0 0
+sum_of_point entry (Err e) = place_sum true 0 0
+sum_of_point entry (Ok (Some p)) = place_sum false entry 1

@@ -5,9 +5,10 @@ ghost use Rattle.points.specs.Fits.{RateFits};
 ghost use Rattle.curve.specs.PlaceSums.{entry_of_point, sum_of_point, plus as Tallies·plus};
 
 use blocks::NO_ENTRY;
-use points::PlacePoint;
+use rounding::{Exceeds, Power};
 
 // For some places: whether 18 holds, the sum in mW of the present points, and their number.
+// No `Result`: what is promised of sum and number holds where 18 does too, and the years go on then.
 #[derive(Clone, Copy)]
 pub(crate) struct PlaceSum {
     pub exceeds: bool,
@@ -22,62 +23,47 @@ pub(crate) const NOTHING: PlaceSum = PlaceSum {
 };
 
 // The entry of a point after the year's rate; a rate of 0 is none.
-pub(crate) fn entry_of(f: PlacePoint, rate: u64) -> u64
-    requires { PlacePointFits f × RateFits rate }
-    ensures { result ≡ entry_of_point rate f }
+#[tactic(auto, unfolding(crate::specs::PlaceSums::entry_of_point, meaning::specs::Points::with_rate, meaning::specs::Record::rate_of_code))]
+pub(crate) fn entry_of(point: Result<Option<Power>, Exceeds>, rate: u64) -> u64
+    requires { PlacePointFits point × RateFits rate }
+    ensures { result ≡ entry_of_point rate point }
 {
-    match f {
-        PlacePoint::Missing => NO_ENTRY,
-        PlacePoint::Exceeds => NO_ENTRY,
-        PlacePoint::Is(p) => {
-            if rate == 0 {
-                return p.0;
-            }
-            let q = rounding::rated(p, rate);
-            q.0
+    match point {
+        Ok(Some(p)) if rate == 0 => p.0,
+        Ok(Some(p)) => rounding::rated(p, rate).0,
+        Ok(None) | Err(Exceeds) => NO_ENTRY,
+    }
+}
+
+impl PlaceSum {
+    // The sum for one place, from its point and entry.
+    #[tactic(auto, unfolding(crate::specs::PlaceSums::sum_of_point))]
+    pub(crate) fn of(point: Result<Option<Power>, Exceeds>, entry: u64) -> PlaceSum
+        ensures { result ≡ sum_of_point entry point }
+    {
+        match point {
+            Ok(None) => NOTHING,
+            Err(Exceeds) => PlaceSum {
+                exceeds: true,
+                ..NOTHING
+            },
+            Ok(Some(_)) => PlaceSum {
+                exceeds: false,
+                sum: entry,
+                counted: 1,
+            },
         }
     }
-}
 
-// The sum for one place, from its point and entry.
-pub(crate) fn place_sum(f: PlacePoint, entry: u64) -> PlaceSum
-    ensures { result ≡ sum_of_point entry f }
-{
-    match f {
-        PlacePoint::Missing => PlaceSum {
-            exceeds: false,
-            sum: 0,
-            counted: 0,
-        },
-        PlacePoint::Exceeds => PlaceSum {
-            exceeds: true,
-            sum: 0,
-            counted: 0,
-        },
-        PlacePoint::Is(_) => PlaceSum {
-            exceeds: false,
-            sum: entry,
-            counted: 1,
-        },
-    }
-}
-
-pub(crate) fn plus(a: PlaceSum, b: PlaceSum) -> PlaceSum
-    requires { (a.sum + b.sum ≤ 88_000_000_000_000_000) × (a.counted + b.counted ≤ 4400) }
-    ensures { result ≡ Tallies·plus a b }
-{
-    let sum = a.sum + b.sum;
-    let counted = a.counted + b.counted;
-    if a.exceeds {
-        return PlaceSum {
-            exceeds: true,
-            sum,
-            counted,
-        };
-    }
-    PlaceSum {
-        exceeds: b.exceeds,
-        sum,
-        counted,
+    #[tactic(auto, unfolding(crate::specs::PlaceSums::plus))]
+    pub(crate) fn plus(self, other: PlaceSum) -> PlaceSum
+        requires { (self.sum + other.sum ≤ 88_000_000_000_000_000) × (self.counted + other.counted ≤ 4400) }
+        ensures { result ≡ Tallies·plus self other }
+    {
+        PlaceSum {
+            exceeds: self.exceeds || other.exceeds,
+            sum: self.sum + other.sum,
+            counted: self.counted + other.counted,
+        }
     }
 }

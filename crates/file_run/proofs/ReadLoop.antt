@@ -1,13 +1,14 @@
 -- A run that reads on, and the sheet that it returns: it has its final answer before the reads are used up.
 use mathlib.Core.Path.{◌≡◌, refl, ap, sym, ◌∙◌}
 use mathlib.Core.Logic.{◌⊎◌, inl, inr}
-use mathlib.Core.Bool.{Bool, true, false, cond, true≢false}
-use mathlib.Core.List.{List, [], ◌++◌}
-use Prim.Native.Nat.{ℕ, ◌+◌, ◌-◌, ◌≤◌, ◌<◌}
+use mathlib.Core.Bool.{Bool, true, false, true≢false}
+use mathlib.Core.List.{List, [], ◌++◌, append_assoc, append-nil}
+use Prim.Native.Nat.{ℕ, ◌+◌, ◌≤◌, ◌<◌}
 use native.Mathlib.Omega.{arith}
-use lib.Dec.{T, eqb}
+use lib.Dec.{T}
 use lib.ListN.{length, length-append}
-use borrow.Author.Tests.{eqb-false}
+use Rattle.std.specs.Prelude.{Option, Some, None, IfSome}
+use Rattle.std.specs.Io.KnownBytes.{Consumes, IsAtEnd}
 use Rattle.meaning.specs.Input.{lines_of}
 use Rattle.meaning.specs.Text.{text_of}
 use Rattle.meaning.specs.Sheet.{sheet_of}
@@ -23,105 +24,99 @@ use Rattle.close.specs.Ends.{CloseOut, close_out, close_repr}
 use Rattle.sheet.specs.declared.Printed.{Printed}
 use Rattle.sheet.specs.SheetTexts.{sheet_text, Holds}
 use Rattle.file_run.specs.declared.ends.End.{End}
-use Rattle.file_run.specs.declared.ends.End.TheVariants.{Answer, Input, Failure}
-use Rattle.file_run.specs.declared.ends.ReadState.{ReadState}
-use Rattle.file_run.specs.ReadEnds.{read_state, read_state_after, text_at_end}
-use Rattle.file_run.specs.PrintedSheets.{PrintsSheet}
+use Rattle.file_run.specs.declared.ends.End.TheVariants.{Answer, Input}
+use Rattle.file_run.specs.ReadEnds.{Stands, ReadOn}
+use Rattle.file_run.specs.PrintedSheets.{SheetOf, PrintsSheet}
 use Rattle.file_run.proofs.WholeInput.{whole_text}
 
--- the run has its final answer, or the reads left and the bytes so far are enough for one; after the input's end or a failed read none is left
-unfoldable pub Stands : End → Run → ℕ → List ℕ → Type 0
-Stands Answer r t bs = (is_final r.out.answer ≡ true) ⊎ (most_input ≤ t + length bs)
-Stands Input r t bs = t ≡ 0
-Stands Failure r t bs = t ≡ 0
+-- ---- bytes taken one part after the other
+none_taken : (a : Option (List ℕ)) → Consumes a a []
+none_taken None = tt
+none_taken (Some xs) = refl
 
-pub record Going (r : Run) (t : ℕ) (e : End) : Type 0 where
-  -- the record and the blocks that were opened
-  pub first : Rec
-  pub lent : Blocks
-  pub sized : T (sizes_fit lent)
-  -- the bytes so far
+taken_then : (a b c : Option (List ℕ)) (x y : List ℕ) → Consumes a b x → Consumes b c y → Consumes a c (x ++ y)
+taken_then None b c x y p q = tt
+taken_then (Some xs) None c x y p q = absurd p
+taken_then (Some xs) (Some ys) None x y p q = absurd q
+taken_then (Some xs) (Some ys) (Some zs) x y p q = p ∙ rw q (sym (append_assoc x y zs))
+
+-- ---- after n reads, each of one byte or more
+pub record Going (a b : Option (List ℕ)) (s r : Run) (n : ℕ) : Type 0 where
   pub bytes : List ℕ
-  pub so_far : r ≡ fed (started first lent) bytes
-  pub stands : Stands e r t bytes
+  pub so_far : r ≡ fed s bytes
+  pub taken : Consumes a b bytes
+  pub many : n ≤ length bytes
 
-pub going_first : (s : Rec) (w : Blocks) (t : ℕ) (r : Run) → T (sizes_fit w) → r ≡ started s w → most_input ≤ t → Going r t Answer
-unfolding Stands fed
-going_first s w t r z q h = record { first = s; lent = w; sized = z; bytes = []; so_far = q; stands = inr (omega arith) }
+pub going_first : (a : Option (List ℕ)) (s : Run) → Going a a s s 0
+unfolding fed
+going_first a s = record { bytes = []; so_far = refl; taken = none_taken a; many = omega arith }
 
--- ---- one read
-module _ (r r' : Run) (t n : ℕ) (piece : List ℕ) (a : Bool) (step : r' ≡ fed r piece) (size : n ≡ length piece) (answered : a ≡ is_final r'.out.answer) (some_left : 0 < t) where
-  stands_on : (bs : List ℕ) → Stands Answer r t bs → (n ≡ 0 → ⊥) → a ≡ false → Stands Answer r' (t - 1) (bs ++ piece)
-  unfolding Stands
-  stands_on bs (inl y) z f = absurd (true≢false (sym (ap (λ (x : Run). is_final x.out.answer) (step ∙ kept r piece y) ∙ y) ∙ sym answered ∙ f))
-  stands_on bs (inr y) z f = inr (omega (arith, length-append bs piece))
-
-  after_turn : (e : End) (failed : Bool) (bs : List ℕ) → Stands e r t bs → Stands (read_state_after failed n a t).end r' (read_state_after failed n a t).turns (bs ++ piece)
-  unfolding Stands read_state_after
-  after_turn Input failed bs y = absurd (omega arith)
-  after_turn Failure failed bs y = absurd (omega arith)
-  after_turn Answer true bs y = refl
-  after_turn Answer false bs y = go (eqb n 0) refl a refl
-    where
-      go : (b : Bool) → eqb n 0 ≡ b → (d : Bool) → a ≡ d
-          → Stands (cond b (read_state 0 Input) (cond d (read_state 0 Answer) (read_state (t - 1) Answer))).end r' (cond b (read_state 0 Input) (cond d (read_state 0 Answer) (read_state (t - 1) Answer))).turns (bs ++ piece)
-      go true u d v = refl
-      go false u true v = inl (sym answered ∙ v)
-      go false u false v = stands_on bs y (eqb-false n 0 u) v
-
-  pub going_next : (e : End) (failed : Bool) (l : ReadState) → l ≡ read_state_after failed n a t → Going r t e → Going r' l.turns l.end
-  going_next e failed l q g = rw q (record {
-    first = g.first;
-    lent = g.lent;
-    sized = g.sized;
+module _ (a b : Option (List ℕ)) (s r : Run) (n : ℕ) (g : Going a b s r n) where
+  pub going_next : (c : Option (List ℕ)) (r' : Run) (piece : List ℕ) → r' ≡ fed r piece → Consumes b c piece → 0 < length piece → Going a c s r' (n + 1)
+  going_next c r' piece q p some = record {
     bytes = g.bytes ++ piece;
-    so_far = step ∙ ap (λ (x : Run). fed x piece) g.so_far ∙ sym (fed_append (started g.first g.lent) g.bytes piece);
-    stands = after_turn e failed g.bytes g.stands;
-  })
+    so_far = q ∙ ap (λ (x : Run). fed x piece) g.so_far ∙ sym (fed_append s g.bytes piece);
+    taken = taken_then a b c g.bytes piece g.taken p;
+    many = omega (arith, length-append g.bytes piece, g.many);
+  }
 
--- each read leaves fewer
-pub fewer : (failed a : Bool) (n t : ℕ) (l : ReadState) → 0 < t → l ≡ read_state_after failed n a t → l.turns < t
-unfolding read_state_after
-fewer true a n t l h q = rw q (omega arith)
-fewer false a n t l h q = rw q (go (eqb n 0) a)
-  where
-    go : (b d : Bool) → (cond b (read_state 0 Input) (cond d (read_state 0 Answer) (read_state (t - 1) Answer))).turns < t
-    go true d = omega arith
-    go false true = omega arith
-    go false false = omega arith
+  pub at_input : (c : Option (List ℕ)) → Consumes b c [] → IsAtEnd c → ReadOn a c s r Input
+  unfolding Stands
+  at_input c p e = record {
+    bytes = g.bytes ++ [];
+    so_far = rw (append-nil g.bytes) g.so_far;
+    taken = taken_then a b c g.bytes [] g.taken p;
+    stands = e;
+  }
+
+  pub at_answer : is_final r.out.answer ≡ true → ReadOn a b s r Answer
+  unfolding Stands
+  at_answer h = record { bytes = g.bytes; so_far = g.so_far; taken = g.taken; stands = inl h }
+
+  pub used_up : most_input ≤ n → ReadOn a b s r Answer
+  unfolding Stands
+  used_up h = record { bytes = g.bytes; so_far = g.so_far; taken = g.taken; stands = inr (omega (arith, g.many)) }
 
 -- ---- the end: the reads are never used up before the final answer
-has_answer : (r : Run) (g : Going r 0 Answer) → is_final r.out.answer ≡ true
-unfolding Stands
-has_answer r g = go (is_final r.out.answer) refl g.stands
-  where
-    go : (b : Bool) → is_final r.out.answer ≡ b → (is_final r.out.answer ≡ true) ⊎ (most_input ≤ 0 + length g.bytes) → b ≡ true
-    go true e s = refl
-    go false e (inl y) = absurd (true≢false (sym y ∙ e))
-    go false e (inr y) =
-        absurd (omega (arith, answer_comes g.first g.lent g.sized g.bytes (sym (ap (λ (x : Run). is_final x.out.answer) g.so_far) ∙ e)))
+module _ (f : Rec) (w : Blocks) (sized : T (sizes_fit w)) (r : Run) (bs : List ℕ) (so_far : r ≡ fed (started f w) bs) where
+  has_answer : (is_final r.out.answer ≡ true) ⊎ (most_input ≤ length bs) → is_final r.out.answer ≡ true
+  has_answer s = go (is_final r.out.answer) refl s
+    where
+      go : (b : Bool) → is_final r.out.answer ≡ b → (is_final r.out.answer ≡ true) ⊎ (most_input ≤ length bs) → b ≡ true
+      go true e s = refl
+      go false e (inl y) = absurd (true≢false (sym y ∙ e))
+      go false e (inr y) = absurd (omega (arith, answer_comes f w sized bs (sym (ap (λ (x : Run). is_final x.out.answer) so_far) ∙ e)))
 
--- whatever bytes come after the final answer
-by_answer : (r : Run) (g : Going r 0 Answer) (cs : List ℕ)
-    → sheet_text (close_repr (finished r)).answer (close_repr (finished r)).years ≡ text_of (sheet_of (lines_of (g.bytes ++ cs)))
-by_answer r g cs =
-    whole_text r g.first g.lent g.sized (g.bytes ++ cs)
-    (sym (kept r cs (has_answer r g)) ∙ ap (λ (x : Run). fed x cs) g.so_far ∙ sym (fed_append (started g.first g.lent) g.bytes cs))
+  -- whatever bytes come after the final answer
+  by_answer : is_final r.out.answer ≡ true → (cs : List ℕ)
+      → sheet_text (close_repr (finished r)).answer (close_repr (finished r)).years ≡ text_of (sheet_of (lines_of (bs ++ cs)))
+  by_answer h cs =
+      whole_text r f w sized (bs ++ cs)
+      (sym (kept r cs h) ∙ ap (λ (x : Run). fed x cs) so_far ∙ sym (fed_append (started f w) bs cs))
 
-by_input : (r : Run) (t : ℕ) (e : End) (g : Going r t e)
-    → sheet_text (close_repr (finished r)).answer (close_repr (finished r)).years ≡ text_of (sheet_of (lines_of g.bytes))
-by_input r t e g = whole_text r g.first g.lent g.sized g.bytes g.so_far
+  by_input : sheet_text (close_repr (finished r)).answer (close_repr (finished r)).years ≡ text_of (sheet_of (lines_of bs))
+  by_input = whole_text r f w sized bs so_far
 
-hands_by : (r : Run) (e : End) (p : Printed) → Going r 0 e → Holds p (text_at_end e (close_repr (finished r)).answer (close_repr (finished r)).years) → PrintsSheet e p
-unfolding PrintsSheet text_at_end
-hands_by r Answer p g h = (g.bytes, λ cs. rw (by_answer r g cs) at h)
-hands_by r Input p g h = (g.bytes, rw (by_input r 0 Input g) at h)
-hands_by r Failure p g h = h
+  module _ (p : Printed) (h : Holds p (sheet_text (close_repr (finished r)).answer (close_repr (finished r)).years)) where
+    handed : (e : End) (b : Option (List ℕ)) → Stands e r b bs → PrintsSheet e p
+    unfolding PrintsSheet Stands
+    handed Answer b s = (bs, λ cs. rw (by_answer (has_answer s) cs) at h)
+    handed Input b s = (bs, rw by_input at h)
 
-pub hands_out : (r : Run) (t : ℕ) (e : End) (a : answers.Answer) (s : Rec) (ys : List YearRow) (w : Blocks) (p : Printed)
-    → t ≤ 0 → Going r t e → close_out a s ys w ≡ close_repr (finished r) → Holds p (text_at_end e a ys) → PrintsSheet e p
-hands_out r t e a s ys w p z g q h =
-    let y : t ≡ 0 = omega arith in
-    let qa : a ≡ (close_repr (finished r)).answer = ap (λ (x : CloseOut). x.answer) q in
+    known : (e : End) (a b : Option (List ℕ)) → Consumes a b bs → Stands e r b bs → IfSome a (λ xs. SheetOf p xs)
+    unfolding Stands
+    known e None b t s = tt
+    known e (Some xs) None t s = absurd t
+    known Answer (Some xs) (Some ys) t s = rw t (rw (by_answer (has_answer s) ys) at h)
+    known Input (Some xs) (Some ys) t s = rw (t, s, append-nil bs) (rw by_input at h)
+
+-- what the close returns, as text
+pub hands_out : (f : Rec) (w : Blocks) → T (sizes_fit w) → (a b : Option (List ℕ)) (s r : Run) (e : End) → s ≡ started f w → ReadOn a b s r e
+    → (an : answers.Answer) (st : Rec) (ys : List YearRow) (v : Blocks) (p : Printed) → close_out an st ys v ≡ close_repr (finished r) → Holds p (sheet_text an ys)
+    → PrintsSheet e p × IfSome a (λ xs. SheetOf p xs)
+hands_out f w z a b s r e i d an st ys v p q h =
+    let qa : an ≡ (close_repr (finished r)).answer = ap (λ (x : CloseOut). x.answer) q in
     let qy : ys ≡ (close_repr (finished r)).years = ap (λ (x : CloseOut). x.years) q in
-    hands_by r e p (rw y at g) (rw (qa, qy) at h)
+    let m : r ≡ fed (started f w) d.bytes = d.so_far ∙ ap (λ (x : Run). fed x d.bytes) i in
+    let k = rw (qa, qy) at h in
+    (handed f w z r d.bytes m p k e b d.stands, known f w z r d.bytes m p k e a b d.taken d.stands)

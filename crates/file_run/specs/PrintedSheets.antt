@@ -12,7 +12,7 @@ use Rattle.demands.specs.Demands.{Within}
 use Rattle.sheet.specs.declared.Printed.{Printed}
 use Rattle.sheet.specs.SheetTexts.{Holds}
 use Rattle.file_run.specs.declared.ends.End.{End}
-use Rattle.file_run.specs.declared.ends.End.TheVariants.{Answer, Input, Failure}
+use Rattle.file_run.specs.declared.ends.End.TheVariants.{Answer, Input}
 
 -- the text that is handed out
 abbrev pub text_in : Printed → List ℕ
@@ -27,8 +27,7 @@ NccWithin p bs =
     field_at (text_in p) 0 ≡ 78 ∷ []
     → Within 3 1 (lowest_rate (filing_in (lines_of bs))) (number_at (text_in p) 3) (exact_fraction (filing_in (lines_of bs)))
 
--- after a final answer, the sheet of the bytes read whatever follows them; at the input's end, theirs; nothing where a read failed
+-- after a final answer, the sheet of the bytes read whatever follows them; at the input's end, theirs
 unfoldable pub PrintsSheet : End → Printed → Type 0
 PrintsSheet Answer p = (bs : List ℕ) × ((cs : List ℕ) → SheetOf p (bs ++ cs))
 PrintsSheet Input p = (bs : List ℕ) × SheetOf p bs
-PrintsSheet Failure p = Holds p []

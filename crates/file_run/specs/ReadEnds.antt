@@ -1,27 +1,19 @@
--- When a run stops reading, and what it returns (document 01, The printed sheet).
-use Rattle.std.specs.Prelude.{◌≡◌, Bool, true, false, cond, List, [], ℕ, ◌-◌, eqb}
-use Rattle.close.specs.declared.outcome.file.YearRow.{YearRow}
-use Rattle.answers.specs.declared.Answer as answers
-use Rattle.sheet.specs.SheetTexts.{sheet_text, Holds}
+-- A run that is fed what a reader gives (document 01, The printed sheet).
+use Rattle.std.specs.Prelude.{◌≡◌, true, List, ℕ, ◌≤◌, ◌⊎◌, Option, length}
+use Rattle.std.specs.Io.KnownBytes.{Consumes, IsAtEnd}
+use Rattle.pieces.specs.Run.{Run, is_final, fed}
+use Rattle.pieces.specs.Promise.{most_input}
 use Rattle.file_run.specs.declared.ends.End.{End}
-use Rattle.file_run.specs.declared.ends.End.TheVariants.{Answer, Input, Failure}
-use Rattle.file_run.specs.declared.ends.ReadState.{ReadState}
-use Rattle.file_run.specs.declared.ends.FileResult.{FileResult}
+use Rattle.file_run.specs.declared.ends.End.TheVariants.{Answer, Input}
 
-abbrev pub read_state : ℕ → End → ReadState
-read_state n e = record { turns = n; end = e }
+-- it has its final answer, or the bytes so far are enough for one; or the reader has no more
+unfoldable pub Stands : End → Run → Option (List ℕ) → List ℕ → Type 0
+Stands Answer r b bs = (is_final r.out.answer ≡ true) ⊎ (most_input ≤ length bs)
+Stands Input r b bs = IsAtEnd b
 
--- a failed read, no bytes, and a final answer each leave no further read
-unfoldable pub read_state_after : Bool → ℕ → Bool → ℕ → ReadState
-read_state_after true n a t = read_state 0 Failure
-read_state_after false n a t = cond (eqb n 0) (read_state 0 Input) (cond a (read_state 0 Answer) (read_state (t - 1) Answer))
-
--- the sheet's text; a failed read has none
-unfoldable pub text_at_end : End → answers.Answer → List YearRow → List ℕ
-text_at_end Answer a ys = sheet_text a ys
-text_at_end Input a ys = sheet_text a ys
-text_at_end Failure a ys = []
-
-pub record FileResultIs (r : FileResult) (e : End) (a : answers.Answer) (ys : List YearRow) : Type 0 where
-  pub end : r.end ≡ e
-  pub text : Holds r.printed (text_at_end e a ys)
+-- from the run s and the reader's bytes a to the run r and its bytes b, at that end
+pub record ReadOn (a b : Option (List ℕ)) (s r : Run) (e : End) : Type 0 where
+  pub bytes : List ℕ
+  pub so_far : r ≡ fed s bytes
+  pub taken : Consumes a b bytes
+  pub stands : Stands e r b bytes

@@ -4,7 +4,7 @@
 
 mod whole_input; // an input that is lent whole
 mod reading; // the loop over what is read
-mod ends; // when a run stops reading, and what it returns
+mod ends; // what a run over a reader returns, and its writing
 
 pub use ends::{End, FileResult, write};
 pub use reading::run;

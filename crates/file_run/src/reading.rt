@@ -1,95 +1,84 @@
 // Reads a reader up to the run's final answer or the input's end.
-ghost use Rattle.std.specs.Prelude.{◌≡◌, ◌≤◌, length};
-ghost use Rattle.pieces.specs.Run.{fed};
+ghost use Rattle.std.specs.Prelude.{◌≡◌, IfOk, IfSome};
+ghost use Rattle.std.specs.Io.{ReadsAtMost};
+ghost use Rattle.std.specs.Io.KnownBytes.{ReadConsumes};
 ghost use Rattle.readings.specs.Readings.{readings_view};
 ghost use Rattle.readings.specs.Columns.{lent_blocks};
 ghost use Rattle.run.specs.RunViews.{run_view};
-ghost use Rattle.file_run.specs.PrintedSheets.{PrintsSheet};
+ghost use Rattle.file_run.specs.PrintedSheets.{SheetOf, PrintsSheet};
+ghost use Rattle.file_run.specs.ReadEnds.{ReadOn};
 
-use crate::ends::{End, FileResult, file_result, read_state_after};
+use crate::ends::{End, FileResult};
 use pieces::is_final;
-use run::{OwnRun, begin, feed, finish};
+use run::{OwnRun, begin};
+use sheet::text;
+use std::io;
 use std::io::Read;
 
 // One more than the bytes after which a run has its final answer: 8,032 lines of 321. Each read but the last brings one or more.
 const TURNS: u64 = 2_578_273;
 
-// What a read brought: whether it failed, and how many bytes came.
+// A run that reads no further.
 #[derive(Clone, Copy)]
-struct Got {
-    failed: bool,
-    bytes: usize,
+struct ReadRun {
+    fed: OwnRun,
+    end: End,
 }
 
-// Reads a piece to the start of `buf`; a read that fails brings no bytes.
-fn read_piece<R: Read>(reader: &mut R, buf: &mut [u8]) -> Got
-    ensures { result.bytes ≤ length buf.new }
+// Reads to the start of `buf`. A function of its own, so that its clauses say apart what a read that fails and one at the end leave.
+fn read_piece<R: Read>(reader: &mut R, buf: &mut [u8]) -> io::Result<usize>
+    ensures bound { ReadsAtMost result buf.new }
+    ensures bytes { ReadConsumes (R.remaining reader.old) (R.remaining reader.new) result buf.new }
 {
-    match reader.read(buf) {
-        Ok(bytes) => Got {
-            failed: false,
-            bytes,
-        },
-        Err(_) => Got {
-            failed: true,
-            bytes: 0,
-        },
-    }
+    reader.read(buf)
 }
 
-// The run after one more piece. A function of its own: the loop of `run` passes the run whole.
-fn feed_piece(
-    so_far: OwnRun,
-    piece: &[u8],
+// Feeds a run what a reader gives, up to its final answer or the input's end.
+fn read_on<R: Read>(
+    reader: &mut R,
+    opened: OwnRun,
     near: &mut [u32],
     far: &mut [u32],
     slots: &mut [u16],
     daily: &mut [u32],
     curve: &[u64],
-) -> OwnRun
-    ensures { run_view result.run (lent_blocks near.new far.new slots.new daily.new (readings_view result.readings) curve.now) ≡ fed (run_view so_far.run (lent_blocks near.old far.old slots.old daily.old (readings_view so_far.readings) curve.now)) piece.now }
+) -> io::Result<ReadRun>
+    ensures { IfOk result (λ r. ReadOn (R.remaining reader.old) (R.remaining reader.new) (run_view opened.run (lent_blocks near.old far.old slots.old daily.old (readings_view opened.readings) curve.now)) (run_view r.fed.run (lent_blocks near.new far.new slots.new daily.new (readings_view r.fed.readings) curve.now)) r.end) }
 {
-    let run = so_far.run;
-    let readings = so_far.readings;
-    feed(run, readings, piece, near, far, slots, daily, curve)
+    let mut fed = opened;
+    let mut buf = [0u8; 65536];
+    for _ in 0..TURNS {
+        let bytes = read_piece(reader, &mut buf)?;
+        if bytes == 0 {
+            let end = End::Input;
+            return Ok(ReadRun { fed, end });
+        }
+        fed = fed.feed(&buf[..bytes], near, far, slots, daily, curve);
+        if is_final(fed.run.call.answer) {
+            break;
+        }
+    }
+    let end = End::Answer;
+    Ok(ReadRun { fed, end })
 }
 
-pub fn run<R: Read>(reader: &mut R) -> FileResult
-    ensures { PrintsSheet result.end result.printed }
+// The sheet of what a reader gives; its error where a read fails. Where the reader's bytes are known, the sheet is that of all of them.
+pub fn run<R: Read>(reader: &mut R) -> io::Result<FileResult>
+    ensures sheet { IfOk result (λ r. PrintsSheet r.end r.printed) }
+    ensures known { IfOk result (λ r. IfSome (R.remaining reader.old) (λ bs. SheetOf r.printed bs)) }
 {
     let mut near = [0u32; 15200];
     let mut far = [0u32; 15200];
     let mut slots = [0u16; 30400];
     let mut daily = [0u32; 4392];
     let mut curve = [0u64; 4400];
-    let mut fed = begin(&mut near, &mut far, &mut slots, &mut daily, &mut curve);
-    let mut buf = [0u8; 65536];
-    let mut turns = TURNS;
-    let mut end = End::Answer;
-    while 0 < turns {
-        let got = read_piece(reader, &mut buf);
-        let n = got.bytes;
-        fed = feed_piece(
-            fed,
-            &buf[..n],
-            &mut near,
-            &mut far,
-            &mut slots,
-            &mut daily,
-            &curve,
-        );
-        let run = fed.run;
-        let answer = run.answer;
-        let left = read_state_after(got.failed, n, is_final(answer), turns);
-        turns = left.turns;
-        end = left.end;
-    }
-    let run = fed.run;
-    let readings = fed.readings;
-    let closed = finish(
-        run, readings, &mut near, &mut far, &mut slots, &mut daily, &mut curve,
-    );
-    let answer = closed.answer;
-    let years = closed.years;
-    file_result(end, answer, years)
+    let opened = begin(&mut near, &mut far, &mut slots, &mut daily, &mut curve);
+    let read = read_on(
+        reader, opened, &mut near, &mut far, &mut slots, &mut daily, &curve,
+    )?;
+    let end = read.end;
+    let fed = read.fed;
+    let closed = fed.finish(&mut near, &mut far, &mut slots, &mut daily, &mut curve);
+    let printed = text(closed.answer, closed.years);
+    Ok(FileResult { end, printed })
 }

@@ -1,7 +1,7 @@
 // A run over an input that is lent whole.
 ghost use Rattle.file_run.specs.PrintedSheets.{SheetOf, NccWithin};
 
-use run::{begin, feed, finish};
+use run::begin;
 use sheet::{Printed, text};
 
 // The text of the sheet of an input: a record is opened, the input is its only piece, and then it ends.
@@ -15,17 +15,7 @@ pub fn sheet_of(input: &[u8]) -> Printed
     let mut daily = [0u32; 4392];
     let mut curve = [0u64; 4400];
     let opened = begin(&mut near, &mut far, &mut slots, &mut daily, &mut curve);
-    let first = opened.run;
-    let fresh = opened.readings;
-    let fed = feed(
-        first, fresh, input, &mut near, &mut far, &mut slots, &mut daily, &curve,
-    );
-    let run = fed.run;
-    let readings = fed.readings;
-    let closed = finish(
-        run, readings, &mut near, &mut far, &mut slots, &mut daily, &mut curve,
-    );
-    let answer = closed.answer;
-    let years = closed.years;
-    text(answer, years)
+    let fed = opened.feed(input, &mut near, &mut far, &mut slots, &mut daily, &curve);
+    let closed = fed.finish(&mut near, &mut far, &mut slots, &mut daily, &mut curve);
+    text(closed.answer, closed.years)
 }

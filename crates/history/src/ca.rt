@@ -3,18 +3,14 @@ ghost use Rattle.std.specs.Prelude.{◌≡◌, ◌≤◌};
 ghost use Rattle.history.specs.Years.{cas_from};
 ghost use Rattle.history.specs.Fits.{AtMost, CasSumIs};
 
+use std::array::from_fn;
+
 // CA of each of the ten years, in thousandths.
 pub fn cas_from(first: u64, filiere: u64) -> [u64; 10]
     requires { first ≤ 2021 }
     ensures { result ≡ cas_from first filiere }
 {
-    let mut out = [0u64; 10];
-    let mut k = 0;
-    while k < 10 {
-        out[k] = note::ca(first + (k as u64), filiere);
-        k += 1;
-    }
-    out
+    from_fn(|k| note::ca(first + (k as u64), filiere))
 }
 
 // The sum of CA over the n history years.
@@ -22,11 +18,5 @@ pub fn cas_sum(cas: &[u64; 10], n: usize) -> u64
     requires { (n ≤ 10) × AtMost 9_999 cas.now }
     ensures { CasSumIs n cas.now result }
 {
-    let mut sum: u64 = 0;
-    let mut k = 0;
-    while k < n {
-        sum += cas[k];
-        k += 1;
-    }
-    sum
+    cas[..n].iter().sum()
 }

@@ -6,6 +6,7 @@ ghost use Rattle.history.specs.Cases.{case_view, is_curve, some_valid, case_with
 
 use crate::ValidYears;
 use line_form::Meter;
+use std::array::from_fn;
 
 // Measured; profiled (T1, P); rebuilt from curves (T2) or from profiled years (T3, I5); default power (T4, I6).
 #[derive(Clone, Copy)]
@@ -21,6 +22,7 @@ pub enum Case {
 }
 
 // The case of a year, from the meter, whether some year's curve or index is valid, and whether its own are.
+#[tactic(auto, unfolding(crate::specs::Cases::case_with, meaning::specs::Cases::curve_case, meaning::specs::Cases::index_case))]
 fn case_of(curve_meter: bool, some_curve: bool, some_index: bool, curve: bool, index: bool) -> Case
     ensures { result ≡ case_with curve_meter some_curve some_index (mark curve index) }
 {
@@ -51,11 +53,7 @@ fn case_of(curve_meter: bool, some_curve: bool, some_index: bool, curve: bool, i
 fn is_curve(meter: Meter) -> bool
     ensures { result ≡ is_curve (meter_view meter) }
 {
-    match meter {
-        Meter::Curve => true,
-        Meter::NoMeter => false,
-        Meter::Index => false,
-    }
+    matches!(meter, Meter::Curve)
 }
 
 // Whether one of the first n years is valid.
@@ -63,14 +61,7 @@ fn some_valid(valid: &[bool; 10], n: usize) -> bool
     requires { n ≤ 10 }
     ensures { result ≡ some_valid n valid.now }
 {
-    let mut k = 0;
-    while k < n {
-        if valid[k] {
-            return true;
-        }
-        k += 1;
-    }
-    false
+    valid[..n].iter().any(|is_valid| *is_valid)
 }
 
 // The cases of the n history years.
@@ -83,29 +74,19 @@ pub fn cases_of(meter: Meter, valid: ValidYears, n: usize) -> [Case; 10]
     let curve_meter = is_curve(meter);
     let some_curve = some_valid(&curves, n);
     let some_index = some_valid(&indexes, n);
-    let mut cases = [Case::M; 10];
-    let mut k = 0;
-    while k < n {
-        let case = case_of(curve_meter, some_curve, some_index, curves[k], indexes[k]);
-        cases[k] = case;
-        k += 1;
-    }
-    cases
+    from_fn(|k| {
+        if k < n {
+            case_of(curve_meter, some_curve, some_index, curves[k], indexes[k])
+        } else {
+            Case::M
+        }
+    })
 }
 
 fn is_default(case: Case) -> bool
     ensures { result ≡ is_default (case_view case) }
 {
-    match case {
-        Case::M => false,
-        Case::T1 => false,
-        Case::T2 => false,
-        Case::T3 => false,
-        Case::T4 => true,
-        Case::P => false,
-        Case::I5 => false,
-        Case::I6 => true,
-    }
+    matches!(case, Case::T4 | Case::I6)
 }
 
 // Which of the n history years have default power.
@@ -113,12 +94,5 @@ pub fn default_years(cases: [Case; 10], n: usize) -> [bool; 10]
     requires { n ≤ 10 }
     ensures { result ≡ default_years n cases }
 {
-    let mut defaults = [false; 10];
-    let mut k = 0;
-    while k < n {
-        let case = cases[k];
-        defaults[k] = is_default(case);
-        k += 1;
-    }
-    defaults
+    from_fn(|k| k < n && is_default(cases[k]))
 }

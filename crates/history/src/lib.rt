@@ -12,7 +12,8 @@ pub use cases::{Case, cases_of, default_years};
 pub use valid::valid_years;
 pub use winter_days::day_of;
 
-// By history year, whether its curve is valid, and whether its index is.
+// By history year, whether its curve is valid, and whether its index is. Either array is lent whole: case 2 takes its donors from one, 3 and 5 theirs
+// from the other.
 #[derive(Clone, Copy)]
 pub struct ValidYears {
     pub curves: [bool; 10],

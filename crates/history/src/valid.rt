@@ -5,14 +5,16 @@ ghost use Rattle.validity.specs.Availability.{valid_row};
 ghost use Rattle.history.specs.ValidYears.{valid_curves, valid_indexes, valid_years};
 
 use crate::ValidYears;
+use blocks::row;
 use calendar::Years;
+use std::array::from_fn;
+use validity::{index_valid, is_valid};
 
 // Whether the curve of a year is valid, by its row of the near or the far block.
 fn curve_valid<'a>(near: &'a [u32], far: &'a [u32], al: u64, year: u64, broken: bool) -> bool
     ensures { result ≡ valid_row (row_of al near.now far.now year) year broken }
 {
-    let row = blocks::row(near, far, al, year);
-    validity::is_valid(row, year, broken)
+    is_valid(row(near, far, al, year), year, broken)
 }
 
 fn valid_curves<'a>(
@@ -26,14 +28,9 @@ fn valid_curves<'a>(
     ensures { result ≡ valid_curves al history near.now far.now breaks }
 {
     let years = history.count as usize;
-    let mut valid = [false; 10];
-    let mut k = 0;
-    while k < years {
-        let year = history.first + (k as u64);
-        valid[k] = curve_valid(near, far, al, year, breaks[k] != 0);
-        k += 1;
-    }
-    valid
+    from_fn(|k| {
+        k < years && curve_valid(near, far, al, history.first + (k as u64), breaks[k] != 0)
+    })
 }
 
 fn valid_indexes(
@@ -46,16 +43,11 @@ fn valid_indexes(
     requires { (n ≤ length positions.now) × (n ≤ length kinds.now) × (years ≤ 10) }
     ensures { result ≡ valid_indexes positions.now kinds.now n years breaks }
 {
-    let mut valid = [false; 10];
-    let mut k = 0;
-    while k < years {
-        valid[k] = validity::index_valid(positions, kinds, n, k, breaks[k] != 0);
-        k += 1;
-    }
-    valid
+    from_fn(|k| k < years && index_valid(positions, kinds, n, k, breaks[k] != 0))
 }
 
-// Which years have a valid curve and which a valid index, from the blocks and n readings.
+// Which years have a valid curve and which a valid index, from the blocks and n readings. The core runs over plain columns.
+#[tactic(auto, unfolding(crate::specs::ValidYears::valid_years))]
 pub fn valid_years<'a>(
     al: u64,
     history: Years,

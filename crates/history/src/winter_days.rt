@@ -5,17 +5,15 @@ ghost use Rattle.history.specs.Years.{on_day, is_donor_on, years_on};
 ghost use Rattle.history.specs.Fits.{DatePlaceIs};
 
 use crate::DayData;
-use calendar::Place;
+use calendar::has_winter_date;
+use std::array::from_fn;
 
 // The date place of a winter place.
 fn date_place(w: usize) -> usize
     requires { w < 152 }
     ensures { DatePlaceIs w result }
 {
-    match calendar::date_of_winter(w) {
-        Place::At(p) => p,
-        Place::Nowhere => 0,
-    }
+    calendar::date_of_winter(w).unwrap_or(0)
 }
 
 // The values of a list by position on one winter day of each year.
@@ -24,24 +22,7 @@ fn on_day(values: &[u64; 4392], w: usize) -> [u64; 10]
     ensures { result ≡ on_day values.now w }
 {
     let place = date_place(w);
-    let mut out = [0u64; 10];
-    let mut k = 0;
-    while k < 10 {
-        let at = 366 * (k + 1) + place;
-        out[k] = values[at];
-        k += 1;
-    }
-    out
-}
-
-// Whether a year has a valid index and the date.
-fn is_donor_year(index: bool, year: u64, w: usize) -> bool
-    ensures { result ≡ (index && has_winter_date year w) }
-{
-    if !index {
-        return false;
-    }
-    calendar::has_winter_date(year, w)
+    from_fn(|k| values[366 * (k + 1) + place])
 }
 
 // Which years are index donors on a day: on 29 February only leap years.
@@ -49,16 +30,11 @@ fn is_donor_on(indexes: &[bool; 10], first: u64, w: usize) -> [bool; 10]
     requires { first ≤ 2021 }
     ensures { result ≡ is_donor_on indexes.now first w }
 {
-    let mut out = [false; 10];
-    let mut k = 0;
-    while k < 10 {
-        out[k] = is_donor_year(indexes[k], first + (k as u64), w);
-        k += 1;
-    }
-    out
+    from_fn(|k| indexes[k] && has_winter_date(first + (k as u64), w))
 }
 
 // What a winter day needs of each year.
+#[tactic(auto, unfolding(crate::specs::Years::years_on))]
 pub fn day_of(
     energies: &[u64; 4392],
     totals: &[u64; 4392],

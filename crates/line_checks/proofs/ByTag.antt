@@ -1,4 +1,8 @@
 -- S, B, R and E: the checks of the code are the conditions of the line's refusal, and what it reads from an accepted line is what the line says.
+use Rattle.std.specs.Prelude.{Result, Ok}
+use Rattle.refusals.specs.declared.Refusal.{Refusal}
+use Rattle.refusals.specs.declared.Refusal.TheVariants.{Outside, TooSoon, Miscounted}
+use Rattle.refusals.specs.Refusals.{unless_reason}
 use mathlib.Core.Path.{◌≡◌, refl, ap, sym, ◌∙◌}
 use mathlib.Core.Bool.{Bool, true, false, not, ◌&&◌, ◌||◌}
 use mathlib.Core.Option.{none}
@@ -14,39 +18,24 @@ use Rattle.line_form.specs.Views.{site_view, site_repr, meter_view, meter_repr}
 use Rattle.line_form.specs.declared.Site.{Site}
 use Rattle.line_form.specs.declared.Meter.{Meter}
 use Rattle.line_form.specs.declared.Meter.TheVariants.{NoMeter, Curve, Index}
-use Rattle.line_form.specs.Reads.{site_read_of, year_read_of, rate_read_of, count_read_of}
+use Rattle.line_form.specs.Reads.{where_formed, is_formed, capped_at, site_read_of, rate_read_of}
 use Rattle.line_form.specs.Ranges.{is_site_outside, is_year_outside, is_rate_outside, is_count_outside}
-use Rattle.line_form.specs.declared.site_fields.SiteRead.{SiteRead}
-use Rattle.line_form.specs.declared.year_fields.YearRead.{YearRead}
-use Rattle.line_form.specs.declared.year_fields.RateRead.{RateRead}
-use Rattle.line_form.specs.declared.year_fields.CountRead.{CountRead}
-use Rattle.line_form.proofs.Capped.{early_history, not_leb}
-use Rattle.line_form.proofs.Checks.{malformed_s, malformed_b, malformed_r, malformed_e, outside_s, outside_b, outside_r, outside_e, exact_s, exact_b, exact_r, exact_e}
+use Rattle.line_form.proofs.Capped.{early_history}
+use Rattle.line_form.proofs.Forms.{malformed}
+use Rattle.line_form.proofs.Checks.{outside_s, outside_b, outside_r, outside_e, exact_s, exact_b, exact_r, exact_e}
 use Rattle.line_checks.specs.Before.{Known, is_not_later, before_like, before_first, before_rising, before_end}
-use Rattle.line_checks.specs.Order.{number_by, first_refusal, is_misplaced}
-use Rattle.line_checks.specs.declared.order.Checks.{Checks}
-use Rattle.line_checks.proofs.Chain.{Asks, chain, clear, misplaced_rank, barred_first, needs_no_date, never_soon, never_falling, never_many, no_count}
-
--- the number from the checks is that of the refusal
-pub number_is : (t : Tag) (b : Before) (l : Line) (c : Checks) → Known t l → Asks b l c → (n : ℕ) → n ≡ first_refusal c → n ≡ number_by (refusal b l)
-unfolding first_refusal
-number_is t b l c k a n e = e ∙ ap number_by (sym (chain t b l c k a))
-
-pub not_both : (a b : Bool) → not (a && b) ≡ (not a || not b)
-not_both true b = refl
-not_both false b = refl
-
-not_three : (a b c : Bool) → not (a && (b && c)) ≡ (not a || (not b || not c))
-not_three a b c = not_both a (b && c) ∙ ap (λ (x : Bool). not a || x) (not_both b c)
+use Rattle.line_checks.specs.Order.{and_then, refused_if, in_order, rising_checks, is_misplaced}
+use Rattle.line_checks.specs.Places.{rate_on}
+use Rattle.line_checks.proofs.Chain.{Asks, clear, told, told_same, after_two, next_three, next_one, misplaced_rank, barred_first, needs_no_date, never_soon, never_falling, never_many, no_count}
 
 -- ---- B
 module _ (l : Line) (last al f latest : ℕ) (k : Known B l) where
   break_asks : Asks (before_rising last (history_years al f) latest) l (record {
     misplaced = is_misplaced last B;
-    malformed = not (year_read_of l).formed;
-    outside = not (among (history_years al f) (year_read_of l).year);
+    malformed = not (is_formed B l);
+    outside = is_year_outside (history_years al f) (capped_at l 1);
     no_date = false;
-    not_later = is_not_later latest (year_read_of l).year;
+    not_later = is_not_later latest (capped_at l 1);
     too_soon = false;
     falling = false;
     too_many = false;
@@ -59,7 +48,7 @@ module _ (l : Line) (last al f latest : ℕ) (k : Known B l) where
       let u = k.tag in
       record {
         misplaced_is = rw u (misplaced_rank last B refl);
-        malformed_is = malformed_b l u;
+        malformed_is = malformed B l u;
         outside_is = outside_b h l (early_history al f) u;
         date_is = λ _. needs_no_date b l B u refl;
         later_is = λ o _. rw u (ap (is_not_later latest) (sym (exact_b h l (early_history al f) u o)));
@@ -69,32 +58,23 @@ module _ (l : Line) (last al f latest : ℕ) (k : Known B l) where
         count_is = λ _. no_count b l B u refl;
       }
 
-  pub break_number : (r : YearRead) (y : Years) (m i e : Bool) (n : ℕ) → r ≡ year_read_of l → m ≡ is_misplaced last B → y ≡ history_years al f → i ≡ among y r.year → e ≡ is_not_later latest r.year
-      → n ≡ first_refusal (record {
-        misplaced = m;
-        malformed = not r.formed;
-        outside = not i;
-        no_date = false;
-        not_later = e;
-        too_soon = false;
-        falling = false;
-        too_many = false;
-        miscounted = false;
-      })
-      → n ≡ number_by (refusal (before_rising last (history_years al f) latest) l)
-  break_number r y m i e n er em ey ei ee en =
-      number_is B (before_rising last (history_years al f) latest) l _ k break_asks n (en ∙ rw (em, ei, ee, ey, er))
-
-  pub break_year : (r : YearRead) → r ≡ year_read_of l → refusal (before_rising last (history_years al f) latest) l ≡ none → r.year ≡ year_on l
-  unfolding holds before_rising before_like
-  break_year r er q = ap (λ (x : YearRead). x.year) er ∙ exact_b (history_years al f) l (early_history al f) k.tag (clear (before_rising last (history_years al f) latest) l q outside)
+  pub break_told : unless_reason (refusal (before_rising last (history_years al f) latest) l) (year_on l)
+      ≡ and_then (in_order (is_misplaced last B) (where_formed B l (capped_at l 1))) (λ y. and_then (rising_checks (is_year_outside (history_years al f) y) false latest y) (λ _. Ok y))
+  unfolding holds before_rising before_like where_formed
+  break_told =
+      let h = history_years al f in
+      let b = before_rising last h latest in
+      let y = capped_at l 1 in
+      told_same (refusal b l) (year_on l) y (λ q. sym (exact_b h l (early_history al f) k.tag (clear b l q outside)))
+      ∙ told B b l _ y k break_asks
+      ∙ after_two (is_misplaced last B) (is_formed B l) y (λ n. and_then (rising_checks (is_year_outside h n) false latest n) (λ _. Ok n)) _ (next_three (is_year_outside h y) false latest y (Ok y))
 
 -- ---- R
 module _ (l : Line) (last al f latest : ℕ) (k : Known R l) where
   rate_asks : Asks (before_rising last (history_years al f) latest) l (record {
     misplaced = is_misplaced last R;
-    malformed = not (rate_read_of l).formed;
-    outside = not (among (history_years al f) (rate_read_of l).year && is_within 10 1000 (rate_read_of l).rate);
+    malformed = not (is_formed R l);
+    outside = is_rate_outside (history_years al f) (rate_read_of l);
     no_date = false;
     not_later = is_not_later latest (rate_read_of l).year;
     too_soon = false;
@@ -109,8 +89,8 @@ module _ (l : Line) (last al f latest : ℕ) (k : Known R l) where
       let u = k.tag in
       record {
         misplaced_is = rw u (misplaced_rank last R refl);
-        malformed_is = malformed_r l u;
-        outside_is = outside_r h l (early_history al f) u ∙ sym (not_both (among h (rate_read_of l).year) (is_within 10 1000 (rate_read_of l).rate));
+        malformed_is = malformed R l u;
+        outside_is = outside_r h l (early_history al f) u;
         date_is = λ _. needs_no_date b l R u refl;
         later_is = λ o _. rw u (ap (is_not_later latest) (sym (exact_r h l (early_history al f) u o).0));
         soon_is = λ _. never_soon b l R u refl;
@@ -119,28 +99,16 @@ module _ (l : Line) (last al f latest : ℕ) (k : Known R l) where
         count_is = λ _. no_count b l R u refl;
       }
 
-  pub rate_number : (r : RateRead) (y : Years) (m a w i e : Bool) (n : ℕ) → r ≡ rate_read_of l → m ≡ is_misplaced last R → y ≡ history_years al f → a ≡ among y r.year
-      → w ≡ is_within 10 1000 r.rate → i ≡ (a && w) → e ≡ is_not_later latest r.year
-      → n ≡ first_refusal (record {
-        misplaced = m;
-        malformed = not r.formed;
-        outside = not i;
-        no_date = false;
-        not_later = e;
-        too_soon = false;
-        falling = false;
-        too_many = false;
-        miscounted = false;
-      })
-      → n ≡ number_by (refusal (before_rising last (history_years al f) latest) l)
-  rate_number r y m a w i e n er em ey ea ew ei ee en =
-      number_is R (before_rising last (history_years al f) latest) l _ k rate_asks n (en ∙ rw (em, ei, ea, ew, ee, ey, er))
-
-  pub rate_numbers : (r : RateRead) → r ≡ rate_read_of l → refusal (before_rising last (history_years al f) latest) l ≡ none → (r.year ≡ year_on l) × (r.rate ≡ number_at l 2)
-  unfolding holds before_rising before_like
-  rate_numbers r er q =
-      let x = exact_r (history_years al f) l (early_history al f) k.tag (clear (before_rising last (history_years al f) latest) l q outside) in
-      (ap (λ (x : RateRead). x.year) er ∙ x.0, ap (λ (x : RateRead). x.rate) er ∙ x.1)
+  pub rate_told : unless_reason (refusal (before_rising last (history_years al f) latest) l) (rate_on l)
+      ≡ and_then (in_order (is_misplaced last R) (where_formed R l (rate_read_of l))) (λ r. and_then (rising_checks (is_rate_outside (history_years al f) r) false latest r.year) (λ _. Ok r))
+  unfolding holds before_rising before_like where_formed rate_on
+  rate_told =
+      let h = history_years al f in
+      let b = before_rising last h latest in
+      let r = rate_read_of l in
+      told_same (refusal b l) (rate_on l) r (λ q. let x = exact_r h l (early_history al f) k.tag (clear b l q outside) in rw (← x.0, ← x.1))
+      ∙ told R b l _ r k rate_asks
+      ∙ after_two (is_misplaced last R) (is_formed R l) r (λ n. and_then (rising_checks (is_rate_outside h n) false latest n.year) (λ _. Ok n)) _ (next_three (is_rate_outside h r) false latest r.year (Ok r))
 
 -- ---- S
 shown_view : (s : Site) → site_repr (site_view s) ≡ s
@@ -154,11 +122,11 @@ shown_view s = ap (λ (m : Meter). record { al = s.al; filiere = s.filiere; mete
 module _ (l : Line) (last : ℕ) (k : Known S l) where
   site_asks : Asks (before_first last) l (record {
     misplaced = not (eqb last 0);
-    malformed = not (site_read_of l).formed;
-    outside = not (is_within 2021 2026 (site_read_of l).site.al && (is_within 1 11 (site_read_of l).site.filiere && is_within 1 most_power (site_read_of l).site.ps));
+    malformed = not (is_formed S l);
+    outside = is_site_outside (site_read_of l);
     no_date = false;
     not_later = false;
-    too_soon = is_too_soon (site_read_of l).site.al (site_read_of l).site.filiere;
+    too_soon = is_too_soon (site_read_of l).al (site_read_of l).filiere;
     falling = false;
     too_many = false;
     miscounted = false;
@@ -168,11 +136,10 @@ module _ (l : Line) (last : ℕ) (k : Known S l) where
       let h = years 0 0 in
       let b = before_first last in
       let u = k.tag in
-      let s = (site_read_of l).site in
       record {
         misplaced_is = rw u (barred_first last no_meter);
-        malformed_is = malformed_s l u;
-        outside_is = outside_s h l u ∙ sym (not_three (is_within 2021 2026 s.al) (is_within 1 11 s.filiere) (is_within 1 most_power s.ps));
+        malformed_is = malformed S l u;
+        outside_is = outside_s h l u;
         date_is = λ _. needs_no_date b l S u refl;
         later_is = λ _ _. refl;
         soon_is = λ o. rw (u, ← exact_s h l u o);
@@ -181,39 +148,30 @@ module _ (l : Line) (last : ℕ) (k : Known S l) where
         count_is = λ _. no_count b l S u refl;
       }
 
-  pub site_number : (r : SiteRead) (a f p v i e : Bool) (n : ℕ) → r ≡ site_read_of l → f ≡ is_within 1 11 r.site.filiere → p ≡ is_within 1 most_power r.site.ps → v ≡ (f && p)
-      → a ≡ is_within 2021 2026 r.site.al → i ≡ (a && v) → e ≡ is_too_soon r.site.al r.site.filiere
-      → n ≡ first_refusal (record {
-        misplaced = not (eqb last 0);
-        malformed = not r.formed;
-        outside = not i;
-        no_date = false;
-        not_later = false;
-        too_soon = e;
-        falling = false;
-        too_many = false;
-        miscounted = false;
-      })
-      → n ≡ number_by (refusal (before_first last) l)
-  site_number r a f p v i e n er ef ep ev ea ei ee en = number_is S (before_first last) l _ k site_asks n (en ∙ rw (ei, ea, ev, ef, ep, ee, er))
-
-  pub site_is : (r : SiteRead) → r ≡ site_read_of l → refusal (before_first last) l ≡ none → r.site ≡ site_repr (site_on l)
-  unfolding holds before_first before_like
-  site_is r er q =
-      ap (λ (x : SiteRead). x.site) er ∙ sym (shown_view (site_read_of l).site) ∙ ap site_repr (exact_s (years 0 0) l k.tag (clear (before_first last) l q outside))
+  pub site_told : unless_reason (refusal (before_first last) l) (site_repr (site_on l))
+      ≡ and_then (in_order (not (eqb last 0)) (where_formed S l (site_read_of l)))
+      (λ s. and_then (refused_if (is_site_outside s) Outside) (λ _. and_then (refused_if (is_too_soon s.al s.filiere) TooSoon) (λ _. Ok s)))
+  unfolding holds before_first before_like where_formed
+  site_told =
+      let b = before_first last in
+      let s = site_read_of l in
+      told_same (refusal b l) (site_repr (site_on l)) s (λ q. sym (sym (shown_view s) ∙ ap site_repr (exact_s (years 0 0) l k.tag (clear b l q outside))))
+      ∙ told S b l _ s k site_asks
+      ∙ after_two (not (eqb last 0)) (is_formed S l) s (λ t. and_then (refused_if (is_site_outside t) Outside) (λ _. and_then (refused_if (is_too_soon t.al t.filiere) TooSoon) (λ _. Ok t))) _
+      (next_one (is_site_outside s) Outside _ ∙ ap (λ (r : Result Site Refusal). and_then (refused_if (is_site_outside s) Outside) (λ _. r)) (next_one (is_too_soon s.al s.filiere) TooSoon (Ok s)))
 
 -- ---- E
 module _ (l : Line) (last count : ℕ) (k : Known E l) where
   end_asks : Asks (before_end last count) l (record {
     misplaced = is_misplaced last E;
-    malformed = not (count_read_of l).formed;
-    outside = not (leb (count_read_of l).count 9999);
+    malformed = not (is_formed E l);
+    outside = is_count_outside (capped_at l 1);
     no_date = false;
     not_later = false;
     too_soon = false;
     falling = false;
     too_many = false;
-    miscounted = not (eqb (count_read_of l).count count);
+    miscounted = not (eqb (capped_at l 1) count);
   })
   unfolding holds before_end before_like is_count_outside is_not_later
   end_asks =
@@ -222,8 +180,8 @@ module _ (l : Line) (last count : ℕ) (k : Known E l) where
       let u = k.tag in
       record {
         misplaced_is = rw u (misplaced_rank last E refl);
-        malformed_is = malformed_e l u;
-        outside_is = outside_e h l u ∙ sym (not_leb (count_read_of l).count 9999);
+        malformed_is = malformed E l u;
+        outside_is = outside_e h l u;
         date_is = λ _. needs_no_date b l E u refl;
         later_is = λ _ _. refl;
         soon_is = λ _. never_soon b l E u refl;
@@ -232,17 +190,12 @@ module _ (l : Line) (last count : ℕ) (k : Known E l) where
         count_is = λ o. rw (u, exact_e h l u o);
       }
 
-  pub end_number : (r : CountRead) (m i : Bool) (n : ℕ) → r ≡ count_read_of l → m ≡ is_misplaced last E → i ≡ leb r.count 9999
-      → n ≡ first_refusal (record {
-        misplaced = m;
-        malformed = not r.formed;
-        outside = not i;
-        no_date = false;
-        not_later = false;
-        too_soon = false;
-        falling = false;
-        too_many = false;
-        miscounted = not (eqb r.count count);
-      })
-      → n ≡ number_by (refusal (before_end last count) l)
-  end_number r m i n er em ei en = number_is E (before_end last count) l _ k end_asks n (en ∙ rw (em, ei, er))
+  pub end_told : unless_reason (refusal (before_end last count) l) tt
+      ≡ and_then (in_order (is_misplaced last E) (where_formed E l (capped_at l 1)))
+      (λ n. and_then (refused_if (is_count_outside n) Outside) (λ _. refused_if (not (eqb n count)) Miscounted))
+  unfolding where_formed refused_if
+  end_told =
+      let n = capped_at l 1 in
+      told E (before_end last count) l _ tt k end_asks
+      ∙ after_two (is_misplaced last E) (is_formed E l) n (λ j. and_then (refused_if (is_count_outside j) Outside) (λ _. refused_if (not (eqb j count)) Miscounted)) _
+      (next_one (is_count_outside n) Outside (refused_if (not (eqb n count)) Miscounted))

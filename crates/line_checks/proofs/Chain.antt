@@ -1,11 +1,14 @@
 -- The first check that holds gives the refusal, where each check equals its condition unless an earlier one holds.
-use mathlib.Core.Path.{◌≡◌, refl, sym, ◌∙◌}
+use mathlib.Core.Path.{◌≡◌, refl, ap, sym, subst, ◌∙◌}
+use Rattle.std.specs.Prelude.{Result, Ok, Err}
+use Rattle.std.specs.Bool.{then_some}
+use Rattle.std.specs.Result.{is_ok}
 use mathlib.Core.Bool.{Bool, true, false, not, ◌&&◌, ◌||◌, cond}
 use mathlib.Core.List.{List, [], ◌∷◌}
 use mathlib.Core.Option.{Option, some, none}
 use Prim.Native.Nat.{ℕ, zero, suc}
 use native.Mathlib.Omega.{arith}
-use lib.Dec.{eqb, ltb, eqb-suc-zero, eqb→eq}
+use lib.Dec.{T, eqb, ltb, eqb-suc-zero, eqb→eq}
 use borrow.Author.Tests.{eq-eqb}
 use Rattle.lists.specs.Lists.{first_of}
 use Rattle.lists.proofs.Tests.{same, is_false}
@@ -15,29 +18,39 @@ use Rattle.meaning.specs.Refusals.{Before, Reason, illegible, unknown, misplaced
 use Rattle.meaning.specs.File.{is_index_meter}
 use Rattle.meaning.specs.Record.{misplaced_by}
 use Rattle.meaning.proofs.Passed.{passed}
-use Rattle.line_checks.specs.Before.{Known}
-use Rattle.line_checks.specs.Order.{number_by, asked, first_refusal, is_misplaced, where_taken}
-use Rattle.line_checks.specs.declared.order.Checks.{Checks}
+use Rattle.line_checks.specs.Before.{Known, is_not_later}
+use Rattle.refusals.specs.declared.Refusal.{Refusal}
+use Rattle.refusals.specs.declared.Refusal.TheVariants.{Misplaced, Malformed, Outside, NoDate, NotLater, TooSoon, Falling, TooMany, Miscounted}
+use Rattle.refusals.specs.Refusals.{of_reason, unless_reason}
+use Rattle.line_form.specs.declared.parts.DateRead.{DateRead}
+use Rattle.line_form.specs.Ranges.{no_date_for}
+use Rattle.line_checks.specs.Places.{key_for, dated_checks}
+use Rattle.line_checks.specs.Order.{Checks, number_by, asked, first_refusal, and_then, refused_if, in_order, rising_checks, is_misplaced}
 
--- ---- the number from the checks
-by_cond : (b : Bool) (y : Reason) (o : Option Reason) → number_by (cond b (some y) o) ≡ cond b (number_of y) (number_by o)
-by_cond true y o = refl
-by_cond false y o = refl
+-- ---- the refusal by the checks in order, and what is told where none holds
+abbrev pub in_turn : {A : Type 0} → Checks → A → Result A Refusal
+in_turn c a =
+    cond c.misplaced (Err Misplaced) (cond c.malformed (Err Malformed) (cond c.outside (Err Outside) (cond c.no_date (Err NoDate) (cond c.not_later (Err NotLater)
+    (cond c.too_soon (Err TooSoon) (cond c.falling (Err Falling) (cond c.too_many (Err TooMany) (cond c.miscounted (Err Miscounted) (Ok a)))))))))
 
-pub first_is : (c : Checks) → first_refusal c ≡ cond c.misplaced 4 (cond c.malformed 5 (cond c.outside 6 (cond c.no_date 7 (cond c.not_later 8
-    (cond c.too_soon 9 (cond c.falling 10 (cond c.too_many 11 (cond c.miscounted 12 0))))))))
-unfolding first_refusal first_of order asked number_of
-first_is c =
+by_cond : {A : Type 0} (b : Bool) (y : Reason) (o : Option Reason) (a : A) → unless_reason (cond b (some y) o) a ≡ cond b (Err (of_reason y)) (unless_reason o a)
+unfolding unless_reason
+by_cond true y o a = refl
+by_cond false y o a = refl
+
+pub first_is : {A : Type 0} (c : Checks) (a : A) → unless_reason (first_refusal c) a ≡ in_turn c a
+unfolding first_refusal first_of order asked of_reason unless_reason
+first_is c a =
     rw (
-      by_cond c.misplaced misplaced,
-      by_cond c.malformed malformed,
-      by_cond c.outside outside,
-      by_cond c.no_date no_date,
-      by_cond c.not_later not_later,
-      by_cond c.too_soon too_soon,
-      by_cond c.falling falling,
-      by_cond c.too_many too_many,
-      by_cond c.miscounted miscounted,
+      by_cond c.misplaced misplaced _ a,
+      by_cond c.malformed malformed _ a,
+      by_cond c.outside outside _ a,
+      by_cond c.no_date no_date _ a,
+      by_cond c.not_later not_later _ a,
+      by_cond c.too_soon too_soon _ a,
+      by_cond c.falling falling _ a,
+      by_cond c.too_many too_many _ a,
+      by_cond c.miscounted miscounted _ a,
     )
 
 -- ---- two tests that agree wherever no earlier one holds find the same
@@ -83,6 +96,73 @@ chain t b l c k a =
     end : first_of (λ x. holds x b l) [] ≡ first_of (asked c) []
     end = unfold first_of in refl
 
+-- ---- the checks in steps: 4 and 5, then 6, 7 and 8
+pub first_two : {A B : Type 0} (m f : Bool) (x : A) (g : A → Result B Refusal) → cond m (Err Misplaced) (cond (not f) (Err Malformed) (g x)) ≡ and_then (in_order m (then_some f x)) g
+unfolding in_order
+first_two true f x g = refl
+first_two false true x g = refl
+first_two false false x g = refl
+
+pub next_one : {A : Type 0} (b : Bool) (y : Refusal) (r : Result A Refusal) → cond b (Err y) r ≡ and_then (refused_if b y) (λ _. r)
+unfolding refused_if
+next_one true y r = refl
+next_one false y r = refl
+
+pub next_three : {A : Type 0} (o d : Bool) (last k : ℕ) (r : Result A Refusal)
+    → cond o (Err Outside) (cond d (Err NoDate) (cond (is_not_later last k) (Err NotLater) r)) ≡ and_then (rising_checks o d last k) (λ _. r)
+unfolding rising_checks refused_if
+next_three true d last k r = refl
+next_three false true last k r = refl
+next_three false false last k r = next_one (is_not_later last k) NotLater r
+
+-- a step whose value the rest takes
+then_ok : {A B C : Type 0} (r : Result A Refusal) (x : B) (g : B → Result C Refusal) → and_then r (λ _. g x) ≡ and_then (and_then r (λ _. Ok x)) g
+then_ok (Ok a) x g = refl
+then_ok (Err y) x g = refl
+
+pub next_dated : {A : Type 0} (o winter : Bool) (d : DateRead) (last : ℕ) (g : ℕ → Result A Refusal) (r : Result A Refusal) → r ≡ g (key_for d.year d.month d.day)
+    → cond o (Err Outside) (cond (no_date_for winter d.year d.month d.day) (Err NoDate) (cond (is_not_later last (key_for d.year d.month d.day)) (Err NotLater) r))
+    ≡ and_then (dated_checks o winter d last) g
+unfolding dated_checks
+next_dated o winter d last g r e =
+    let v = key_for d.year d.month d.day in
+    let n = no_date_for winter d.year d.month d.day in
+    next_three o n last v r ∙ ap (λ q. and_then (rising_checks o n last v) (λ _. q)) e ∙ then_ok (rising_checks o n last v) v g
+
+pub after_two : {A B : Type 0} (m f : Bool) (x : A) (g : A → Result B Refusal) (r : Result B Refusal) → r ≡ g x
+    → cond m (Err Misplaced) (cond (not f) (Err Malformed) r) ≡ and_then (in_order m (then_some f x)) g
+after_two m f x g r e = ap (λ q. cond m (Err Misplaced) (cond (not f) (Err Malformed) q)) e ∙ first_two m f x g
+
+-- the result of a line, from its checks
+pub told : {A : Type 0} (t : Tag) (b : Before) (l : Line) (c : Checks) (a : A) → Known t l → Asks b l c → unless_reason (refusal b l) a ≡ in_turn c a
+unfolding first_refusal
+told t b l c a k s = ap (λ (o : Option Reason). unless_reason o a) (chain t b l c k s) ∙ first_is c a
+
+-- what is told of an accepted line alone
+pub told_same : {A : Type 0} (o : Option Reason) (a d : A) → (o ≡ none → a ≡ d) → unless_reason o a ≡ unless_reason o d
+unfolding unless_reason
+told_same none a d e = rw (e refl)
+told_same (some y) a d e = refl
+
+-- ---- what a result says about the refusal
+ok_in : {A : Type 0} → A → Result A Refusal → A
+ok_in d (Ok x) = x
+ok_in d (Err y) = d
+
+err_in : {A : Type 0} → Refusal → Result A Refusal → Refusal
+err_in d (Ok x) = d
+err_in d (Err y) = y
+
+pub told_ok : {A : Type 0} (o : Option Reason) (a d : A) → Ok d ≡ unless_reason o a → (o ≡ none) × (d ≡ a)
+unfolding unless_reason ok_in
+told_ok none a d e = (refl, ap (ok_in d) e)
+told_ok (some y) a d e = absurd (subst T (ap is_ok e) tt)
+
+pub told_err : {A : Type 0} (o : Option Reason) (a : A) (d : Refusal) → Err d ≡ unless_reason o a → (y : Reason) × (o ≡ some y) × (d ≡ of_reason y)
+unfolding unless_reason err_in
+told_err none a d e = absurd (subst T (sym (ap is_ok e)) tt)
+told_err (some y) a d e = (y, refl, ap (err_in d) e)
+
 -- ---- what a number says about the refusal
 pub number_above : (y : Reason) → number_of y ≡ 0 → ⊥
 unfolding number_of
@@ -102,10 +182,6 @@ number_above miscounted e = omega arith
 pub no_refusal : (o : Option Reason) (n : ℕ) → n ≡ number_by o → n ≡ 0 → o ≡ none
 no_refusal none n p e = refl
 no_refusal (some y) n p e = absurd (number_above y (sym p ∙ e))
-
-pub where_refused : {A : Type 0} (o : Option Reason) (n : ℕ) → n ≡ number_by o → (n ≡ 0 → ⊥) → (a d : A) → where_taken o a d ≡ d
-where_refused none n p h a d = absurd (h p)
-where_refused (some y) n p h a d = refl
 
 -- where there is no refusal no condition holds
 pub clear : (b : Before) (l : Line) → refusal b l ≡ none → (y : Reason) → holds y b l ≡ false

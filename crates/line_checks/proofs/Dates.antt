@@ -7,8 +7,7 @@ use lib.Dec.{T}
 use borrow.Author.Tests.{le-ltb}
 use Rattle.lists.proofs.Tests.{is_true}
 use Rattle.calendar.specs.declared.Years.{Years}
-use Rattle.calendar.specs.declared.Place.{Place}
-use Rattle.calendar.specs.declared.Place.TheVariants.{At, Nowhere}
+use Rattle.std.specs.Prelude.{Option, Some, None}
 use Rattle.calendar.specs.Dates.{is_date, is_day, is_winter}
 use Rattle.calendar.specs.Places.{winter_place}
 use Rattle.calendar.specs.Spans.{among, axis_years, history_years, position_of}
@@ -24,9 +23,9 @@ use Rattle.line_checks.specs.Places.{place_or, key_for}
 pub place_low : (m d : ℕ) → place_or (date_place_of m d) ≤ 365
 place_low m d = go (date_place_of m d) refl
   where
-    go : (p : Place) → date_place_of m d ≡ p → place_or p ≤ 365
-    go (At p) e = let h : p < 366 = place_below m d p e in omega arith
-    go Nowhere e = omega arith
+    go : (p : Option ℕ) → date_place_of m d ≡ p → place_or p ≤ 365
+    go (Some p) e = let h : p < 366 = place_below m d p e in omega arith
+    go None e = omega arith
 
 day_is : (y m d : ℕ) → is_date y m d ≡ true → is_day m d ≡ true
 day_is y m d e = is_true (is_day m d) (date_day y m d (rw e tt))

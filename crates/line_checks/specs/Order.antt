@@ -1,34 +1,31 @@
--- The checks of a line in order, and their numbers (document 01, Stops that come from the input).
-use Rattle.std.specs.Prelude.{Bool, false, ◌||◌, not, ℕ, eqb, ltb}
+-- The checks of a line in order, and the refusals that they give (document 01, Stops that come from the input).
+use Rattle.std.specs.Prelude as std
+use Rattle.std.specs.Prelude.{Bool, false, cond, ◌||◌, ℕ, eqb, ltb, Result, Ok, Err}
+use Rattle.std.specs.Option.{ok_or}
 use Rattle.std.proofs.Math.Option.{Option, some, none}
 use Rattle.lists.specs.Lists.{first_of}
 use Rattle.meaning.specs.Line.{Tag, rank}
 use Rattle.meaning.specs.Refusals.{Reason, illegible, unknown, misplaced, malformed, outside, no_date, not_later, too_soon, falling, too_many, miscounted, number_of, order}
-use Rattle.line_checks.specs.declared.order.Checks.{Checks}
+use Rattle.refusals.specs.declared.Refusal.{Refusal}
+use Rattle.refusals.specs.declared.Refusal.TheVariants.{Misplaced, Malformed, Outside, NoDate, NotLater}
+use Rattle.line_checks.specs.Before.{is_not_later}
 
 -- the number of a refusal, 0 for none
 abbrev pub number_by : Option Reason → ℕ
 number_by none = 0
 number_by (some y) = number_of y
 
--- a where the line is accepted, d where it is refused
-abbrev pub where_taken : {A : Type 0} → Option Reason → A → A → A
-where_taken none a d = a
-where_taken (some y) a d = d
-
--- 4 to 6, the others false
-abbrev pub common_checks : Bool → Bool → Bool → Checks
-common_checks m f i = record {
-  misplaced = m;
-  malformed = not f;
-  outside = not i;
-  no_date = false;
-  not_later = false;
-  too_soon = false;
-  falling = false;
-  too_many = false;
-  miscounted = false;
-}
+-- which of 4 to 12 hold for a line
+pub record Checks : Type 0 where
+  pub misplaced : Bool
+  pub malformed : Bool
+  pub outside : Bool
+  pub no_date : Bool
+  pub not_later : Bool
+  pub too_soon : Bool
+  pub falling : Bool
+  pub too_many : Bool
+  pub miscounted : Bool
 
 -- 2 and 3 have been checked before
 unfoldable pub asked : Checks → Reason → Bool
@@ -44,8 +41,23 @@ asked c falling = c.falling
 asked c too_many = c.too_many
 asked c miscounted = c.miscounted
 
-unfoldable pub first_refusal : Checks → ℕ
-first_refusal c = number_by (first_of (asked c) order)
+unfoldable pub first_refusal : Checks → Option Reason
+first_refusal c = first_of (asked c) order
+
+-- what the next step gives, where the one before it gave a value
+abbrev pub and_then : {A B : Type 0} → Result A Refusal → (A → Result B Refusal) → Result B Refusal
+and_then (Ok a) f = f a
+and_then (Err y) f = Err y
+
+-- ---- the refusal where a check holds; 4 and 5; 6, 7 and 8
+unfoldable pub refused_if : Bool → Refusal → Result Unit Refusal
+refused_if b y = cond b (Err y) (Ok tt)
+
+unfoldable pub in_order : {A : Type 0} → Bool → std.Option A → Result A Refusal
+in_order m r = cond m (Err Misplaced) (ok_or r Malformed)
+
+unfoldable pub rising_checks : Bool → Bool → ℕ → ℕ → Result Unit Refusal
+rising_checks o d last k = cond o (Err Outside) (cond d (Err NoDate) (cond (is_not_later last k) (Err NotLater) (Ok tt)))
 
 -- 4 for a tag, by the rank of the last tag: no line yet, a later tag, or E
 unfoldable pub is_misplaced : ℕ → Tag → Bool

@@ -2,25 +2,25 @@
 use mathlib.Core.Path.{◌≡◌, refl, ap, sym, ◌∙◌}
 use mathlib.Core.Logic.{◌⊎◌, inl, inr, ⊎_elim}
 use mathlib.Core.Bool.{Bool, true, false, ◌||◌, cond}
+use Rattle.std.specs.Prelude.{Option, Some, None}
 use mathlib.Core.List.{List, [], ◌∷◌}
 use Prim.Native.Nat.{ℕ, zero, suc, ◌+◌, ◌≤◌, ◌<◌, min}
 use native.Mathlib.Omega.{arith}
 use native.Mathlib.Numerals.{add-one}
 use lib.Dec.{eqb, ltb}
 use lib.ListN.{length, take, set, replicate}
-use borrow.Author.Tests.{eq-eqb, ne_eqb, lt-ltb, le-ltb, ltb-true, ltb-false}
+use borrow.Author.Tests.{lt-ltb, le-ltb, ltb-true, ltb-false}
 use Rattle.text.specs.Numbers.{value_from, value_of}
 use Rattle.lists.specs.Lists.{tab, any}
 use Rattle.lists.proofs.Tables.{tab_same}
 use Rattle.lists.proofs.FilledTables.{set_tab}
 use Rattle.text.specs.Fields.{is_invalid, up_to, past, tab_at, tabs, rest_at, field_at}
-use Rattle.text.specs.NumberFields.{number_field_of}
 use Rattle.text.specs.declared.NumberField.{NumberField}
-use Rattle.text.proofs.Laws.{first_of, past_none, field_beyond}
+use Rattle.text.proofs.Laws.{FieldRead, first_of, past_none, field_beyond, some_read, none_read}
 use Rattle.meaning.specs.Line.{Line}
 use Rattle.meaning.specs.Refusals.{is_illegible}
 use Rattle.line_form.specs.Shapes.{shape_by, shape_of}
-use Rattle.line_form.specs.Fields.{field_of, no_field, no_fields, fields_of}
+use Rattle.line_form.specs.Fields.{field_of, no_field, fields_in, fields_of}
 use Rattle.line_form.specs.declared.Shape.{Shape}
 use Rattle.line_form.specs.declared.Field.{Field}
 use Rattle.line_form.specs.declared.Fields.{Fields}
@@ -99,77 +99,77 @@ unfolding tab
 none_yet zero i f = refl
 none_yet (suc n) i f = rw (le-ltb i 0 (omega arith)) (ap (λ (r : List Field). no_field ∷ r) (none_yet n (suc i) f))
 
-pub none_read : (l : Line) → ReadSoFar l (replicate 24 no_field) l 0
+pub nothing_read : (l : Line) → ReadSoFar l (replicate 24 no_field) l 0
 unfolding rest_at
-none_read l = record { fields = none_yet 24 0 _; rest = refl; clean = refl; count = omega arith }
+nothing_read l = record { fields = none_yet 24 0 _; rest = refl; clean = refl; count = omega arith }
 
-module _ (l : Line) (fields : List Field) (rest : List ℕ) (k : ℕ) (w : ReadSoFar l fields rest k) (n : NumberField) (e : n ≡ number_field_of rest) where
-  pub length_here : n.length ≡ tab_at rest
-  unfolding number_field_of
-  length_here = rw e
+pub invalid_field : (l : Line) (fields : List Field) (rest : List ℕ) (k : ℕ) → ReadSoFar l fields rest k → any is_invalid (up_to rest) ≡ true → any is_invalid l ≡ true
+invalid_field l fields rest k w q = w.clean ∙ invalid_parts rest ∙ rw q
 
+module _ (l : Line) (fields : List Field) (rest : List ℕ) (k : ℕ) (w : ReadSoFar l fields rest k) (n : NumberField) (e : FieldRead n rest) where
   here : up_to rest ≡ field_at l k
   unfolding field_at
   here = ap up_to w.rest
 
-  invalid_here : n.invalid ≡ any is_invalid (up_to rest)
-  unfolding number_field_of
-  invalid_here = rw e
-
-  pub invalid_field : n.invalid ≡ true → any is_invalid l ≡ true
-  invalid_field q = w.clean ∙ invalid_parts rest ∙ rw (sym invalid_here ∙ q)
-
   pub field_on : (f : List ℕ) (x : Shape) → k < 24 → f ≡ take n.length rest → x ≡ shape_by n.formed f
       → set fields k (record { shape = x; value = n.value }) ≡ first_ones l (k + 1)
-  unfolding field_of shape_of number_field_of
-  field_on f x h p q = ones_on l fields k _ h w.fields (rw (q, p, first_of rest _ length_here, e, here))
+  unfolding field_of shape_of
+  field_on f x h p q = ones_on l fields k _ h w.fields (rw (q, p, e.formed_is, e.value_is, first_of rest _ e.length_is, here))
 
-  clean_past : n.invalid ≡ false → any is_invalid l ≡ any is_invalid (past rest)
-  clean_past q = w.clean ∙ invalid_parts rest ∙ rw (sym invalid_here ∙ q)
+  clean_past : any is_invalid l ≡ any is_invalid (past rest)
+  clean_past = w.clean ∙ invalid_parts rest ∙ rw e.valid
 
-  pub read_on : (fs : List Field) (t : List ℕ) → n.invalid ≡ false → n.length < length rest → fs ≡ first_ones l (k + 1) → t ≡ past rest → ReadSoFar l fs t (k + 1)
-  read_on fs t q h pf pt = record {
+  pub read_on : (fs : List Field) (t : List ℕ) → n.length < length rest → fs ≡ first_ones l (k + 1) → t ≡ past rest → ReadSoFar l fs t (k + 1)
+  read_on fs t h pf pt = record {
     fields = pf;
     rest = pt ∙ rw (w.rest, add-one k) (sym (rest_suc k l));
-    clean = clean_past q ∙ rw pt;
-    count = omega (arith, w.count, tabs_past rest (omega (arith, length_here)), ap tabs pt);
+    clean = clean_past ∙ rw pt;
+    count = omega (arith, w.count, tabs_past rest (omega (arith, e.length_is)), ap tabs pt);
   }
 
 -- ---- the result of the pass
-pub invalid_line : (l : Line) → any is_invalid l ≡ true → no_fields ≡ fields_of l
+abbrev None_here : Line → Type 0
+None_here l = ◌≡◌ {A = Option Fields} None (fields_of l)
+
+pub invalid_line : (l : Line) → any is_invalid l ≡ true → None_here l
 unfolding fields_of is_illegible
 invalid_line l e = go (eqb (length l) 0) (ltb 320 (length l))
   where
-    go : (a b : Bool) → no_fields ≡ cond (a || (b || any is_invalid l)) no_fields (record { count = min (tabs l + 1) 25; fields = tab 24 0 (λ k. field_of (field_at l k)) })
+    go : (a b : Bool) → ◌≡◌ {A = Option Fields} None (cond (a || (b || any is_invalid l)) None (Some (fields_in l)))
     go true b = refl
     go false true = refl
     go false false = rw e
 
-pub empty_line : (l : Line) → length l ≡ 0 → no_fields ≡ fields_of l
+pub size_line : (l : Line) (b : Bool) → b ≡ eqb (length l) 0 → (b ≡ true) ⊎ ((b ≡ false) × (320 < length l)) → None_here l
 unfolding fields_of is_illegible
-empty_line l h = rw (eq-eqb (length l) 0 h)
+size_line l b e h = ⊎_elim empty long h
+  where
+    empty : b ≡ true → None_here l
+    empty p = let q : eqb (length l) 0 ≡ true = sym e ∙ p in rw q
 
-pub long_line : (l : Line) → (length l ≡ 0 → ⊥) → 320 < length l → no_fields ≡ fields_of l
-unfolding fields_of is_illegible
-long_line l n h = rw (ne_eqb (length l) 0 n, lt-ltb 320 (length l) h)
+    long : (b ≡ false) × (320 < length l) → None_here l
+    long p = let q : eqb (length l) 0 ≡ false = sym e ∙ p.0 in rw (q, lt-ltb 320 (length l) p.1)
 
-module _ (l : Line) (z : length l ≡ 0 → ⊥) (h : length l ≤ 320) where
+module _ (l : Line) (z : eqb (length l) 0 ≡ false) (h : length l ≤ 320) where
   handed : (fs : List Field) (k c : ℕ) → any is_invalid l ≡ false → (24 ≤ k) ⊎ (tabs l < k) → fs ≡ first_ones l k → c ≡ min (tabs l + 1) 25
-      → ◌≡◌ {A = Fields} (record { count = c; fields = fs }) (fields_of l)
-  unfolding fields_of is_illegible
-  handed fs k c e j pf pc = rw (ne_eqb (length l) 0 z, le-ltb 320 (length l) h, e, pc, pf, ones_all l k j)
+      → ◌≡◌ {A = Option Fields} (Some (record { count = c; fields = fs })) (fields_of l)
+  unfolding fields_of fields_in is_illegible
+  handed fs k c e j pf pc = rw (z, le-ltb 320 (length l) h, e, pc, pf, ones_all l k j)
 
   module _ (fields : List Field) (rest : List ℕ) (k : ℕ) (w : ReadSoFar l fields rest k) where
     -- the line ends with its k-th field
-    pub last_field : (n : NumberField) (e : n ≡ number_field_of rest) → k < 24 → n.invalid ≡ false → length rest ≤ n.length → (f : List ℕ) (x : Shape) → f ≡ take n.length rest
-        → x ≡ shape_by n.formed f → ◌≡◌ {A = Fields} (record { count = k + 1; fields = set fields k (record { shape = x; value = n.value }) }) (fields_of l)
+    pub last_field : (n : NumberField) (e : FieldRead n rest) → k < 24 → length rest ≤ n.length → (f : List ℕ) (x : Shape) → f ≡ take n.length rest
+        → x ≡ shape_by n.formed f → ◌≡◌ {A = Option Fields} (Some (record { count = k + 1; fields = set fields k (record { shape = x; value = n.value }) })) (fields_of l)
     unfolding any
-    last_field n e j q g f x p px =
-        let none : length rest ≤ tab_at rest = omega (arith, length_here l fields rest k w n e) in
+    last_field n e j g f x p px =
+        let none : length rest ≤ tab_at rest = omega (arith, e.length_is) in
         let c = w.count in
         let o : tabs rest ≡ 0 = tabs_none rest none in
-        handed _ (k + 1) (k + 1) (clean_past l fields rest k w n e q ∙ rw (past_none rest none)) (inr (omega arith)) (field_on l fields rest k w n e f x j p px) (omega arith)
+        handed _ (k + 1) (k + 1) (clean_past l fields rest k w n e ∙ rw (past_none rest none)) (inr (omega arith)) (field_on l fields rest k w n e f x j p px) (omega arith)
 
     -- there are fields after the 24th
-    pub too_many_lem : 24 ≤ k → k ≤ 24 → any is_invalid rest ≡ false → ◌≡◌ {A = Fields} (record { count = 25; fields = fields }) (fields_of l)
+    pub too_many_lem : 24 ≤ k → k ≤ 24 → any is_invalid rest ≡ false → ◌≡◌ {A = Option Fields} (Some (record { count = 25; fields = fields })) (fields_of l)
     too_many_lem lo hi e = let c = w.count in handed fields k 25 (w.clean ∙ e) (inl lo) w.fields (omega arith)
+
+-- what the proof of the pass needs where it returns
+pub ruleset pass_steps = (invalid_field, last_field, too_many_lem, invalid_line, size_line, some_read, none_read)

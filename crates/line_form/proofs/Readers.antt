@@ -1,104 +1,100 @@
--- The result of each reader, from the values in the code: shapes and numbers of a line's fields.
-use mathlib.Core.Path.{◌≡◌, sym, ◌∙◌}
-use mathlib.Core.Bool.{Bool, ◌&&◌}
+-- What a line says as a chain of its fields: none where one is not in its form.
+use Rattle.std.specs.Prelude.{Option, Some, None, option_and_then}
+use Rattle.std.specs.Bool.{then_some}
+use mathlib.Core.Path.{◌≡◌, refl, sym}
+use mathlib.Core.Bool.{Bool, true, false, ◌&&◌, cond}
 use Prim.Native.Nat.{ℕ, ◌<◌}
 use native.Mathlib.Omega.{arith}
 use lib.ListN.{get_or}
 use Rattle.text.specs.Fields.{field_at, reads, edition}
 use Rattle.text.specs.Numbers.{is_number}
-use Rattle.meaning.specs.Line.{Line, number_at, meter_of, meter_of_letter, is_meter, kind_of, kind_of_letter, is_kind}
-use Rattle.readings.specs.declared.Kind.{Kind}
+use Rattle.meaning.specs.Line.{Line, S, X, D, B, R, E, number_at, meter_of, meter_of_letter, is_meter, kind_of, kind_of_letter, is_kind}
 use Rattle.readings.specs.Readings.{kind_repr}
 use Rattle.line_form.specs.Fields.{ReadFrom}
-use Rattle.line_form.specs.Shapes.{is_numeral, is_edition, byte_of}
+use Rattle.line_form.specs.Shapes.{is_edition, byte_of, number_of}
 use Rattle.line_form.specs.declared.Field.{Field}
 use Rattle.line_form.specs.declared.Fields.{Fields}
 use Rattle.line_form.proofs.Shaped.{shape_number, shape_edition, shape_meter, shape_kind}
 use Rattle.line_form.proofs.Read.{shape_at, value_at_lem}
-use Rattle.line_form.specs.Views.{meter_view, meter_repr}
-use Rattle.line_form.specs.Reads.{capped_at, is_date_formed, site_read_of, reading_read_of, daily_read_of, year_read_of, rate_read_of, count_read_of}
-use Rattle.line_form.specs.declared.Meter.{Meter}
-use Rattle.line_form.specs.declared.site_fields.SiteRead.{SiteRead}
-use Rattle.line_form.specs.declared.axis_fields.ReadingRead.{ReadingRead}
-use Rattle.line_form.specs.declared.axis_fields.DailyRead.{DailyRead}
-use Rattle.line_form.specs.declared.year_fields.YearRead.{YearRead}
-use Rattle.line_form.specs.declared.year_fields.RateRead.{RateRead}
-use Rattle.line_form.specs.declared.year_fields.CountRead.{CountRead}
+use Rattle.line_form.specs.Views.{meter_repr}
+use Rattle.line_form.specs.Reads.{capped_at, is_date_formed, where_formed, kind_where, meter_where, date_read_of, dated_read_of, site_read_of, reading_read_of, daily_read_of, rate_read_of}
 use Rattle.line_form.proofs.Forms.{formed_site, formed_year, formed_rate, formed_count, formed_reading, formed_daily}
-use Rattle.line_form.proofs.LetterLaws.{shown}
+
+-- the number of a field, where it is one
+abbrev pub number_read : Line → ℕ → Option ℕ
+number_read l k = then_some (is_number (field_at l k)) (capped_at l k)
 
 module _ (f : Fields) (l : Line) (w : ReadFrom f l) (d : Field) where
-  -- ---- one field
-  pub number_at_lem : (k : ℕ) (b : Bool) → k < 24 → b ≡ is_numeral (get_or f.fields k d).shape → b ≡ is_number (field_at l k)
-  number_at_lem k b h e = e ∙ rw (shape_at l f w k d h) (sym (shape_number (field_at l k)))
+  pub number_here : (k : ℕ) → k < 24 → number_of (get_or f.fields k d) ≡ number_read l k
+  unfolding number_of capped_at number_at
+  number_here k h = rw (shape_at l f w k d h, ← shape_number (field_at l k), value_at_lem l f w k d h)
 
-  pub capped_at_lem : (k : ℕ) → k < 24 → (get_or f.fields k d).value ≡ capped_at l k
-  unfolding capped_at number_at
-  capped_at_lem k h = value_at_lem l f w k d h
-
-  -- ---- B, R, E
-  pub year_read : (b : Bool) → b ≡ is_numeral (get_or f.fields 1 d).shape → ◌≡◌ {A = YearRead} (record { formed = b; year = (get_or f.fields 1 d).value }) (year_read_of l)
-  unfolding year_read_of
-  year_read b e = rw (number_at_lem 1 b (omega arith) e, capped_at_lem 1 (omega arith), formed_year l)
-
-  pub count_read : (b : Bool) → b ≡ is_numeral (get_or f.fields 1 d).shape → ◌≡◌ {A = CountRead} (record { formed = b; count = (get_or f.fields 1 d).value }) (count_read_of l)
-  unfolding count_read_of
-  count_read b e = rw (number_at_lem 1 b (omega arith) e, capped_at_lem 1 (omega arith), formed_count l)
-
-  pub rate_read : (b y r : Bool) → y ≡ is_numeral (get_or f.fields 1 d).shape → r ≡ is_numeral (get_or f.fields 2 d).shape → b ≡ (y && r)
-      → ◌≡◌ {A = RateRead} (record { formed = b; year = (get_or f.fields 1 d).value; rate = (get_or f.fields 2 d).value }) (rate_read_of l)
-  unfolding rate_read_of
-  rate_read b y r p q j = rw (j, number_at_lem 1 y (omega arith) p, number_at_lem 2 r (omega arith) q, capped_at_lem 1 (omega arith), capped_at_lem 2 (omega arith), formed_rate l)
-
-  -- ---- the date
-  pub date_read : (b bm bd by be : Bool) → bm ≡ is_numeral (get_or f.fields 2 d).shape → bd ≡ is_numeral (get_or f.fields 3 d).shape → by ≡ is_numeral (get_or f.fields 1 d).shape → be ≡ (bm && bd) → b ≡ (by && be) → b ≡ is_date_formed l
-  unfolding is_date_formed
-  date_read b bm bd by be m d y je j = j ∙ rw (je, number_at_lem 1 by (omega arith) y, number_at_lem 2 bm (omega arith) m, number_at_lem 3 bd (omega arith) d)
-
-  -- ---- X, D
-  kind_here : kind_of_letter (byte_of (get_or f.fields 5 d).shape) ≡ kind_of (field_at l 5)
+  pub kind_here : kind_of_letter (byte_of (get_or f.fields 5 d).shape) ≡ kind_of (field_at l 5)
   kind_here = rw (shape_at l f w 5 d (omega arith), shape_kind (field_at l 5))
 
-  pub reading_read : (x : ℕ) (k : Kind) (b bd bi bk be : Bool) → x ≡ byte_of (get_or f.fields 5 d).shape → k ≡ kind_repr (kind_of_letter x) → bi ≡ is_numeral (get_or f.fields 4 d).shape → bk ≡ is_kind (kind_of_letter x) → be ≡ (bi && bk) → bd ≡ is_date_formed l → b ≡ (bd && be)
-      → ◌≡◌ {A = ReadingRead} (record { formed = b; year = (get_or f.fields 1 d).value; month = (get_or f.fields 2 d).value; day = (get_or f.fields 3 d).value; index = (get_or f.fields 4 d).value; kind = k }) (reading_read_of l)
-  unfolding reading_read_of
-  reading_read x k b bd bi bk be ex e i jk je z j =
-      rw (j, je, z, number_at_lem 4 bi (omega arith) i, jk, e, ex, kind_here, capped_at_lem 1 (omega arith), capped_at_lem 2 (omega arith), capped_at_lem 3 (omega arith), capped_at_lem 4 (omega arith), formed_reading l)
-
-  pub daily_read : (b bd bs : Bool) → bs ≡ is_numeral (get_or f.fields 4 d).shape → bd ≡ is_date_formed l → b ≡ (bd && bs)
-      → ◌≡◌ {A = DailyRead} (record { formed = b; year = (get_or f.fields 1 d).value; month = (get_or f.fields 2 d).value; day = (get_or f.fields 3 d).value; sum = (get_or f.fields 4 d).value }) (daily_read_of l)
-  unfolding daily_read_of
-  daily_read b bd bs s d j = rw (j, d, number_at_lem 4 bs (omega arith) s, capped_at_lem 1 (omega arith), capped_at_lem 2 (omega arith), capped_at_lem 3 (omega arith), capped_at_lem 4 (omega arith), formed_daily l)
-
-  -- ---- S
-  meter_here : meter_of_letter (byte_of (get_or f.fields 4 d).shape) ≡ meter_of (field_at l 4)
+  pub meter_here : meter_of_letter (byte_of (get_or f.fields 4 d).shape) ≡ meter_of (field_at l 4)
   meter_here = rw (shape_at l f w 4 d (omega arith)) (sym (shape_meter (field_at l 4)))
 
-  edition_here : is_edition (get_or f.fields 1 d).shape ≡ reads (field_at l 1) edition
+  pub edition_here : is_edition (get_or f.fields 1 d).shape ≡ reads (field_at l 1) edition
   edition_here = rw (shape_at l f w 1 d (omega arith)) (sym (shape_edition (field_at l 1)))
 
-  pub site_read : (x : ℕ) (k : Meter) (b be bm bp b1 bf ba b2 b3 : Bool) → x ≡ byte_of (get_or f.fields 4 d).shape → k ≡ meter_repr (meter_of_letter x) → bm ≡ is_meter (meter_view k) → bp ≡ is_numeral (get_or f.fields 5 d).shape → b1 ≡ (bm && bp)
-      → bf ≡ is_numeral (get_or f.fields 3 d).shape → ba ≡ is_numeral (get_or f.fields 2 d).shape → b2 ≡ (bf && b1) → b3 ≡ (ba && b2) → be ≡ is_edition (get_or f.fields 1 d).shape → b ≡ (be && b3)
-      → ◌≡◌ {A = SiteRead} (record { formed = b; site = record { al = (get_or f.fields 2 d).value; filiere = (get_or f.fields 3 d).value; meter = k; ps = (get_or f.fields 5 d).value } }) (site_read_of l)
-  unfolding site_read_of
-  site_read x k b be bm bp b1 bf ba b2 b3 ex ek em ep j1 ef ea j2 j3 je j =
-      rw (
-        j,
-        j3,
-        j2,
-        j1,
-        em,
-        ek,
-        ex,
-        meter_here,
-        number_at_lem 5 bp (omega arith) ep,
-        number_at_lem 3 bf (omega arith) ef,
-        number_at_lem 2 ba (omega arith) ea,
-        je,
-        edition_here,
-        capped_at_lem 2 (omega arith),
-        capped_at_lem 3 (omega arith),
-        capped_at_lem 5 (omega arith),
-        formed_site l,
-        shown (meter_of (field_at l 4)),
-      )
+-- two and more fields
+both_then : {A C : Type 0} (a b : Bool) (x : A) (y : C) (f : A → Option C) → then_some b y ≡ f x → then_some (a && b) y ≡ option_and_then f (then_some a x)
+both_then true b x y f e = e
+both_then false b x y f e = refl
+
+last_one : {A B : Type 0} (b : Bool) (x : A) (f : A → B) → then_some b (f x) ≡ option_and_then (λ u. Some (f u)) (then_some b x)
+last_one true x f = refl
+last_one false x f = refl
+
+-- ---- by tag
+module _ (l : Line) where
+  pub year_read : where_formed B l (capped_at l 1) ≡ number_read l 1
+  unfolding where_formed
+  year_read = rw (formed_year l)
+
+  pub count_read : where_formed E l (capped_at l 1) ≡ number_read l 1
+  unfolding where_formed
+  count_read = rw (formed_count l)
+
+  pub rate_read : where_formed R l (rate_read_of l) ≡ option_and_then (λ y. option_and_then (λ r. Some (record { year = y; rate = r })) (number_read l 2)) (number_read l 1)
+  unfolding where_formed rate_read_of
+  rate_read =
+      rw (formed_rate l) (both_then (is_number (field_at l 1)) (is_number (field_at l 2)) (capped_at l 1) _ _ (last_one (is_number (field_at l 2)) (capped_at l 2) (λ r. record { year = capped_at l 1; rate = r })))
+
+  pub date_read : dated_read_of l
+      ≡ option_and_then (λ y. option_and_then (λ m. option_and_then (λ d. Some (record { year = y; month = m; day = d })) (number_read l 3)) (number_read l 2)) (number_read l 1)
+  unfolding dated_read_of is_date_formed date_read_of
+  date_read =
+      both_then (is_number (field_at l 1)) (is_number (field_at l 2) && is_number (field_at l 3)) (capped_at l 1) _ _
+      (both_then (is_number (field_at l 2)) (is_number (field_at l 3)) (capped_at l 2) _ _ (last_one (is_number (field_at l 3)) (capped_at l 3) (λ d. record { year = capped_at l 1; month = capped_at l 2; day = d })))
+
+  pub reading_read : where_formed X l (reading_read_of l)
+      ≡ option_and_then (λ d. option_and_then (λ i. option_and_then (λ k. Some (record { date = d; index = i; kind = k })) (kind_where (kind_of (field_at l 5)))) (number_read l 4)) (dated_read_of l)
+  unfolding where_formed reading_read_of dated_read_of kind_where
+  reading_read =
+      rw (formed_reading l)
+      (both_then (is_date_formed l) (is_number (field_at l 4) && is_kind (kind_of (field_at l 5))) (date_read_of l) _ _
+      (both_then (is_number (field_at l 4)) (is_kind (kind_of (field_at l 5))) (capped_at l 4) _ _ (last_one (is_kind (kind_of (field_at l 5))) (kind_repr (kind_of (field_at l 5))) (λ k. record { date = date_read_of l; index = capped_at l 4; kind = k }))))
+
+  pub daily_read : where_formed D l (daily_read_of l) ≡ option_and_then (λ d. option_and_then (λ s. Some (record { date = d; sum = s })) (number_read l 4)) (dated_read_of l)
+  unfolding where_formed daily_read_of dated_read_of
+  daily_read =
+      rw (formed_daily l)
+      (both_then (is_date_formed l) (is_number (field_at l 4)) (date_read_of l) _ _ (last_one (is_number (field_at l 4)) (capped_at l 4) (λ s. record { date = date_read_of l; sum = s })))
+
+  pub site_read : where_formed S l (site_read_of l)
+      ≡ cond (reads (field_at l 1) edition)
+      (option_and_then (λ a. option_and_then (λ f. option_and_then (λ m. option_and_then (λ p. Some (record { al = a; filiere = f; meter = m; ps = p })) (number_read l 5)) (meter_where (meter_of (field_at l 4)))) (number_read l 3)) (number_read l 2))
+      None
+  unfolding where_formed site_read_of meter_where
+  site_read =
+      rw (formed_site l)
+      (after (reads (field_at l 1) edition) _ _ _
+      (both_then (is_number (field_at l 2)) _ (capped_at l 2) _ _
+      (both_then (is_number (field_at l 3)) _ (capped_at l 3) _ _
+      (both_then (is_meter (meter_of (field_at l 4))) (is_number (field_at l 5)) (meter_repr (meter_of (field_at l 4))) _ _ (last_one (is_number (field_at l 5)) (capped_at l 5) (λ p. record { al = capped_at l 2; filiere = capped_at l 3; meter = meter_repr (meter_of (field_at l 4)); ps = p }))))))
+    where
+      after : {A : Type 0} (a b : Bool) (x : A) (o : Option A) → then_some b x ≡ o → then_some (a && b) x ≡ cond a o None
+      after true b x o e = e
+      after false b x o e = refl

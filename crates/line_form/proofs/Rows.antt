@@ -1,4 +1,6 @@
 -- The 20 values of a line, from the values in the code.
+use Rattle.std.specs.Prelude.{option_and_then}
+use Rattle.std.specs.Bool.{then_some}
 use mathlib.Core.Path.{◌≡◌, refl, ap, sym, ◌∙◌}
 use mathlib.Core.Bool.{Bool, true, false, ◌&&◌, ◌||◌, cond}
 use mathlib.Core.List.{List, [], ◌∷◌, ◌++◌}
@@ -19,14 +21,10 @@ use Rattle.line_form.specs.declared.Field.{Field}
 use Rattle.line_form.specs.declared.Fields.{Fields}
 use Rattle.line_form.proofs.Shaped.{shape_number, shape_dash}
 use Rattle.line_form.proofs.Read.{shape_at, value_at_lem}
-use Rattle.line_form.specs.Reads.{in_forms, is_formed, is_date_formed}
+use Rattle.line_form.specs.Reads.{in_forms, is_formed, is_date_formed, where_formed, date_read_of, dated_read_of}
 use Rattle.line_form.specs.Codes.{dash}
-use Rattle.line_form.specs.ValueReads.{date_read_of}
-use Rattle.line_form.specs.Rows.{row_form, row_tag, row_at, code_of, is_value, row_of}
-use Rattle.line_form.specs.declared.values.Row.{Row}
-use Rattle.line_form.specs.declared.values.DateRead.{DateRead}
+use Rattle.line_form.specs.Rows.{row_form, row_tag, row_at, code_of, is_value, is_row_formed}
 use Rattle.line_form.proofs.Forms.{dated, in_forms_snoc}
-use Rattle.line_form.proofs.Readers.{capped_at_lem}
 
 -- ---- fields after the n-th
 rest_add : (m n : ℕ) (l : List ℕ) → rest_at (rest_at l m) n ≡ rest_at l (m + n)
@@ -84,18 +82,17 @@ formed_row true l = dated _ _ _ (replicate 20 (row_form true)) l
 formed_row false l = dated _ _ _ (replicate 20 (row_form false)) l
 
 pub row_read : (dashes b : Bool) (vs : List ℕ) (k : ℕ) (l : Line) → length vs ≡ 20 → 20 ≤ k → k ≤ 20
-    → take k vs ≡ codes_of dashes l k → b ≡ in_forms (replicate k (row_form dashes)) (rest_at l 4) → ◌≡◌ {A = Row} (record { formed = b; codes = vs }) (row_of dashes l)
-unfolding row_of row_at
+    → take k vs ≡ codes_of dashes l k → b ≡ in_forms (replicate k (row_form dashes)) (rest_at l 4) → (b ≡ is_row_formed dashes l) × (vs ≡ row_at dashes l 4)
+unfolding is_row_formed row_at
 row_read dashes b vs k l h lo hi e p =
     let z : k ≡ 20 = omega arith in
-    rw (sym (take_all 20 vs (omega arith)) ∙ (rw z at e), rw z at p)
+    (rw z at p, sym (take_all 20 vs (omega arith)) ∙ (rw z at e))
 
 -- ---- the line
-pub dated_read : (dashes : Bool) (told : Fields) (l : Line) → ReadFrom told l → (z : Field) (r : Row) (b d : Bool) → r ≡ row_of dashes l → d ≡ is_date_formed l → b ≡ (d && r.formed)
-    → ◌≡◌ {A = DateRead} (record { formed = b; year = (get_or told.fields 1 z).value; month = (get_or told.fields 2 z).value; day = (get_or told.fields 3 z).value }) (date_read_of (row_tag dashes) l)
-unfolding date_read_of row_of
-dated_read dashes told l w z r b d e p j = rw (j, e, p, capped_at_lem told l w z 1 (omega arith), capped_at_lem told l w z 2 (omega arith), capped_at_lem told l w z 3 (omega arith), formed_row dashes l)
-
-pub codes_read : (dashes : Bool) (l : Line) (r : Row) → r ≡ row_of dashes l → r.codes ≡ row_at dashes l 4
-unfolding row_of
-codes_read dashes l r e = rw e
+pub row_dated : (dashes : Bool) (l : Line) → where_formed (row_tag dashes) l (date_read_of l) ≡ option_and_then (then_some (is_row_formed dashes l)) (dated_read_of l)
+unfolding where_formed dated_read_of is_row_formed
+row_dated dashes l = rw (formed_row dashes l) (go (is_date_formed l) (in_forms (replicate 20 (row_form dashes)) (rest_at l 4)))
+  where
+    go : (a b : Bool) → then_some (a && b) (date_read_of l) ≡ option_and_then (then_some b) (then_some a (date_read_of l))
+    go true b = refl
+    go false b = refl

@@ -30,22 +30,23 @@ size_most R = omega arith
 size_most E = omega arith
 size_most other = omega arith
 
--- from the values in the code: the letter's tag t, the tag's number s of fields
-module _ (f : Fields) (d : Field) (t : Tag) (s : ℕ) (rt : t ≡ tag_of_letter (byte_of (get_or f.fields 0 d).shape)) (st : s ≡ size t) (l : Line) (w : ReadFrom f l) where
+-- from the values in the code: the letter's tag t
+module _ (f : Fields) (d : Field) (t : Tag) (rt : t ≡ tag_of_letter (byte_of (get_or f.fields 0 d).shape)) (l : Line) (w : ReadFrom f l) where
   tag_here : t ≡ tag_of l
   unfolding tag_of field_at rest_at
   tag_here = rt ∙ ap (λ (x : Shape). tag_of_letter (byte_of x)) (shape_at l f w 0 d (omega arith)) ∙ sym (shape_tag (up_to l))
 
-  size_here : s ≡ size (tag_of l)
-  size_here = st ∙ ap size tag_here
-
-  pub known : f.count ≡ s → t ≡ known_tag l
+  pub known : f.count ≡ size t → t ≡ known_tag l
   unfolding known_tag is_unknown
-  known h = rw (eq-eqb (tabs l + 1) (size (tag_of l)) (omega (arith, count_of l f w, size_here, size_most (tag_of l)))) tag_here
+  known h = let s = ap size tag_here in rw (eq-eqb (tabs l + 1) (size (tag_of l)) (omega (arith, count_of l f w, s, size_most (tag_of l)))) tag_here
 
-  pub not_known : (f.count ≡ s → ⊥) → other ≡ known_tag l
+  pub not_known : (f.count ≡ size t → ⊥) → other ≡ known_tag l
   unfolding known_tag is_unknown
-  not_known h = rw (ne_eqb (tabs l + 1) (size (tag_of l)) (λ (e : tabs l + 1 ≡ size (tag_of l)). h (omega (arith, count_of l f w, size_here, size_most (tag_of l)))))
+  not_known h = let s = ap size tag_here in rw (ne_eqb (tabs l + 1) (size (tag_of l)) (λ (e : tabs l + 1 ≡ size (tag_of l)). h (omega (arith, count_of l f w, s, size_most (tag_of l)))))
+
+  -- no tag has no fields
+  pub no_letter : t ≡ other → other ≡ known_tag l
+  no_letter e = not_known (λ h. absurd (omega (arith, count_of l f w, h, ap size e)))
 
 -- ---- 3, by the known tag
 -- a line with no known tag is unknown

@@ -16,22 +16,15 @@ use Rattle.calendar.specs.Spans.{among}
 use Rattle.text.specs.Fields.{up_to, past, rest_at, field_at}
 use Rattle.text.specs.Numbers.{most, value_of, is_dash}
 use Rattle.text.proofs.NumberLaws.{ltb_capped}
-use Rattle.meaning.specs.Line.{Line, Tag, C, P, tag_of, Form, number, number_or_dash, forms_of, in_range, some_field, number_at, year_on, value_at, most_power, most_profile}
-use Rattle.meaning.specs.Refusals.{is_malformed, is_outside}
+use Rattle.meaning.specs.Line.{Line, C, P, tag_of, Form, number, number_or_dash, forms_of, in_range, some_field, number_at, year_on, value_at, most_power, most_profile}
+use Rattle.meaning.specs.Refusals.{is_outside}
 use Rattle.meaning.specs.Blocks.{missing_point}
-use Rattle.line_form.specs.Reads.{capped_at}
+use Rattle.line_form.specs.Reads.{capped_at, date_read_of}
 use Rattle.line_form.proofs.ReadFields.{rest_suc}
-use Rattle.line_form.proofs.Forms.{malformed}
 use Rattle.line_form.proofs.Capped.{Early, not_leb, above_capped}
 use Rattle.line_form.proofs.Checks.{either, year_off, year_exact}
 use Rattle.line_form.specs.Codes.{dash, point_row, profile_row, is_point_outside, is_profile_outside, stored_point}
-use Rattle.line_form.specs.ValueReads.{date_read_of}
 use Rattle.line_form.specs.ValueRanges.{is_points_outside, is_profiles_outside}
-
--- ---- 5
-pub malformed_row : (t : Tag) (l : Line) → tag_of l ≡ t → is_malformed l ≡ not (date_read_of t l).formed
-unfolding date_read_of
-malformed_row t l e = malformed t l e
 
 -- ---- 6
 field_here : (l : List ℕ) (n : ℕ) → up_to (rest_at l n) ≡ field_at l n
@@ -69,26 +62,26 @@ profile_off : (h : Years) (f : List ℕ) → not (in_range h (number 0 most_prof
 unfolding in_range is_profile_outside
 profile_off h f = above_capped most_profile (value_of f) (omega arith)
 
-pub outside_c : (h : Years) (l : Line) → Early h → tag_of l ≡ C → is_outside h l ≡ is_points_outside h (date_read_of C l) (point_row l)
+pub outside_c : (h : Years) (l : Line) → Early h → tag_of l ≡ C → is_outside h l ≡ is_points_outside h (date_read_of l) (point_row l)
 unfolding is_outside forms_of some_field in_range is_points_outside date_read_of point_row value_at number_at field_at rest_at
 outside_c h l y e =
     rw e (either (year_off h l 1 (omega arith))
     (row_fails (λ m f. not (in_range h m f)) (number_or_dash most_power) is_point_outside (λ f. cond (is_dash f) dash (min (value_of f) most)) (point_off h) 20 0 l))
 
-pub outside_p : (h : Years) (l : Line) → Early h → tag_of l ≡ P → is_outside h l ≡ is_profiles_outside h (date_read_of P l) (profile_row l)
+pub outside_p : (h : Years) (l : Line) → Early h → tag_of l ≡ P → is_outside h l ≡ is_profiles_outside h (date_read_of l) (profile_row l)
 unfolding is_outside forms_of some_field in_range is_profiles_outside date_read_of profile_row value_at number_at field_at rest_at
 outside_p h l y e =
     rw e (either (year_off h l 1 (omega arith))
     (row_fails (λ m f. not (in_range h m f)) (number 0 most_profile) is_profile_outside (λ f. min (value_of f) most) (profile_off h) 20 0 l))
 
 -- ---- numbers that are not outside their ranges are not capped, and what the blocks hold
-pub exact_c : (h : Years) (l : Line) → Early h → tag_of l ≡ C → is_outside h l ≡ false → ((date_read_of C l).year ≡ year_on l) × (any is_point_outside (point_row l) ≡ false)
+pub exact_c : (h : Years) (l : Line) → Early h → tag_of l ≡ C → is_outside h l ≡ false → ((date_read_of l).year ≡ year_on l) × (any is_point_outside (point_row l) ≡ false)
 unfolding date_read_of is_points_outside
 exact_c h l y e o =
     let p = or_parts (not (among h (capped_at l 1))) (any is_point_outside (point_row l)) (sym (outside_c h l y e) ∙ o) in
     (year_exact h l 1 (omega arith) p.0, p.1)
 
-pub exact_p : (h : Years) (l : Line) → Early h → tag_of l ≡ P → is_outside h l ≡ false → ((date_read_of P l).year ≡ year_on l) × (any is_profile_outside (profile_row l) ≡ false)
+pub exact_p : (h : Years) (l : Line) → Early h → tag_of l ≡ P → is_outside h l ≡ false → ((date_read_of l).year ≡ year_on l) × (any is_profile_outside (profile_row l) ≡ false)
 unfolding date_read_of is_profiles_outside
 exact_p h l y e o =
     let p = or_parts (not (among h (capped_at l 1))) (any is_profile_outside (profile_row l)) (sym (outside_p h l y e) ∙ o) in

@@ -1,5 +1,5 @@
 -- The fields of a line, as found in one pass over its bytes (document 01, Calls and the lines of a file).
-use Rattle.std.specs.Prelude.{◌≡◌, false, cond, List, ℕ, ◌+◌, min, replicate}
+use Rattle.std.specs.Prelude.{◌≡◌, Option, Some, None, false, cond, List, ℕ, ◌+◌, min}
 use Rattle.lists.specs.Lists.{tab}
 use Rattle.text.specs.Fields.{tabs, field_at}
 use Rattle.text.specs.Numbers.{value_of, most}
@@ -22,17 +22,18 @@ field_of f = record { shape = shape_of f; value = min (value_of f) most }
 abbrev pub no_field : Field
 no_field = record { shape = Other; value = 0 }
 
--- 2: an illegible line has no fields
-abbrev pub no_fields : Fields
-no_fields = record { count = 0; fields = replicate most_fields no_field }
+-- the fields of a legible line
+unfoldable pub fields_in : Line → Fields
+fields_in l = record { count = min (tabs l + 1) 25; fields = tab most_fields 0 (λ k. field_of (field_at l k)) }
 
-unfoldable pub fields_of : Line → Fields
-fields_of l = cond (is_illegible l) no_fields (record { count = min (tabs l + 1) 25; fields = tab most_fields 0 (λ k. field_of (field_at l k)) })
+-- 2: an illegible line has none
+unfoldable pub fields_of : Line → Option Fields
+fields_of l = cond (is_illegible l) None (Some (fields_in l))
 
 -- f holds the fields of the legible line l
 pub record ReadFrom (f : Fields) (l : Line) : Type 0 where
   pub legible : is_illegible l ≡ false
-  pub read : f ≡ fields_of l
+  pub read : f ≡ fields_in l
 
 -- Says holds for every line whose fields f holds
 abbrev pub EachLine : Fields → (Line → Type 0) → Type 0

@@ -5,6 +5,5 @@ pub mod Shapes
 pub mod Fields
 pub mod Tags
 pub mod Codes
-pub mod ValueReads
 pub mod ValueRanges
 pub mod Rows

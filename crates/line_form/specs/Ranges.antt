@@ -8,9 +8,7 @@ use Rattle.meaning.specs.Record.{is_within}
 use Rattle.line_form.specs.declared.Site.{Site}
 use Rattle.line_form.specs.declared.axis_fields.ReadingRead.{ReadingRead}
 use Rattle.line_form.specs.declared.axis_fields.DailyRead.{DailyRead}
-use Rattle.line_form.specs.declared.year_fields.YearRead.{YearRead}
 use Rattle.line_form.specs.declared.year_fields.RateRead.{RateRead}
-use Rattle.line_form.specs.declared.year_fields.CountRead.{CountRead}
 
 -- ---- 6: numbers outside their ranges, years outside the span of the tag
 -- S
@@ -19,23 +17,23 @@ is_site_outside s = not (is_within 2021 2026 s.al) || (not (is_within 1 11 s.fil
 
 -- X
 unfoldable pub is_reading_outside : Years → ReadingRead → Bool
-is_reading_outside h r = not (among (axis_years h) r.year) || ltb most_index r.index
+is_reading_outside h r = not (among (axis_years h) r.date.year) || ltb most_index r.index
 
 -- D
 unfoldable pub is_daily_outside : Years → DailyRead → Bool
-is_daily_outside h r = not (among (axis_years h) r.year) || ltb most_daily r.sum
+is_daily_outside h r = not (among (axis_years h) r.date.year) || ltb most_daily r.sum
 
 -- B
-unfoldable pub is_year_outside : Years → YearRead → Bool
-is_year_outside h r = not (among h r.year)
+unfoldable pub is_year_outside : Years → ℕ → Bool
+is_year_outside h y = not (among h y)
 
 -- R
 unfoldable pub is_rate_outside : Years → RateRead → Bool
 is_rate_outside h r = not (among h r.year) || not (is_within 10 1000 r.rate)
 
 -- E
-unfoldable pub is_count_outside : CountRead → Bool
-is_count_outside r = ltb 9999 r.count
+unfoldable pub is_count_outside : ℕ → Bool
+is_count_outside n = ltb 9999 n
 
 -- ---- 7: no such date, or not winter where the tag takes winter dates only
 unfoldable pub no_date_for : Bool → ℕ → ℕ → ℕ → Bool

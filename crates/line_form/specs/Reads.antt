@@ -1,16 +1,19 @@
 -- What is read from a line, whatever its bytes: its tag, whether its fields are in their forms, and its numbers, capped at 10^18.
-use Rattle.std.specs.Prelude.{Bool, ◌&&◌, not, List, ℕ, min}
+use Rattle.std.specs.Prelude.{Bool, ◌&&◌, not, List, ℕ, min, Option}
+use Rattle.std.specs.Bool.{then_some}
 use Rattle.text.specs.Fields.{past, field_at}
 use Rattle.text.specs.Numbers.{is_number, most}
-use Rattle.meaning.specs.Line.{Line, Tag, S, X, D, B, R, E, Form, forms_of, in_form, some_field, number_at, meter_of, kind_of}
+use Rattle.meaning.specs.Filing as meant
+use Rattle.meaning.specs.Line.{Line, Tag, Form, forms_of, in_form, some_field, number_at, meter_of, kind_of, is_meter, is_kind}
+use Rattle.readings.specs.declared.Kind.{Kind}
 use Rattle.readings.specs.Readings.{kind_repr}
 use Rattle.line_form.specs.Views.{meter_repr}
-use Rattle.line_form.specs.declared.site_fields.SiteRead.{SiteRead}
+use Rattle.line_form.specs.declared.Meter.{Meter}
+use Rattle.line_form.specs.declared.Site.{Site}
+use Rattle.line_form.specs.declared.parts.DateRead.{DateRead}
 use Rattle.line_form.specs.declared.axis_fields.ReadingRead.{ReadingRead}
 use Rattle.line_form.specs.declared.axis_fields.DailyRead.{DailyRead}
-use Rattle.line_form.specs.declared.year_fields.YearRead.{YearRead}
 use Rattle.line_form.specs.declared.year_fields.RateRead.{RateRead}
-use Rattle.line_form.specs.declared.year_fields.CountRead.{CountRead}
 
 -- 5: whether the first fields of the rest of a line are in their forms
 unfoldable pub in_forms : List Form → List ℕ → Bool
@@ -28,31 +31,37 @@ is_date_formed l = is_number (field_at l 1) && (is_number (field_at l 2) && is_n
 unfoldable pub capped_at : Line → ℕ → ℕ
 capped_at l n = min (number_at l n) most
 
--- ---- by tag
-unfoldable pub site_read_of : Line → SiteRead
-site_read_of l = record {
-  formed = is_formed S l;
-  site = record { al = capped_at l 2; filiere = capped_at l 3; meter = meter_repr (meter_of (field_at l 4)); ps = capped_at l 5 };
-}
+-- what a line says, where its fields are in their forms for the tag (else 5)
+unfoldable pub where_formed : {A : Type 0} → Tag → Line → A → Option A
+where_formed t l a = then_some (is_formed t l) a
 
+-- the meter of a letter that is one, the kind of a letter that is one
+unfoldable pub meter_where : meant.Meter → Option Meter
+meter_where m = then_some (is_meter m) (meter_repr m)
+
+unfoldable pub kind_where : meant.Kind → Option Kind
+kind_where k = then_some (is_kind k) (kind_repr k)
+
+-- the date of a C, P, X or D line, and that date where its three fields are numbers
+unfoldable pub date_read_of : Line → DateRead
+date_read_of l = record { year = capped_at l 1; month = capped_at l 2; day = capped_at l 3 }
+
+unfoldable pub dated_read_of : Line → Option DateRead
+dated_read_of l = then_some (is_date_formed l) (date_read_of l)
+
+-- ---- what a line says: the year of a B line and the count of an E line are its first number, capped
+-- S
+unfoldable pub site_read_of : Line → Site
+site_read_of l = record { al = capped_at l 2; filiere = capped_at l 3; meter = meter_repr (meter_of (field_at l 4)); ps = capped_at l 5 }
+
+-- X
 unfoldable pub reading_read_of : Line → ReadingRead
-reading_read_of l = record {
-  formed = is_formed X l;
-  year = capped_at l 1;
-  month = capped_at l 2;
-  day = capped_at l 3;
-  index = capped_at l 4;
-  kind = kind_repr (kind_of (field_at l 5));
-}
+reading_read_of l = record { date = date_read_of l; index = capped_at l 4; kind = kind_repr (kind_of (field_at l 5)) }
 
+-- D
 unfoldable pub daily_read_of : Line → DailyRead
-daily_read_of l = record { formed = is_formed D l; year = capped_at l 1; month = capped_at l 2; day = capped_at l 3; sum = capped_at l 4 }
+daily_read_of l = record { date = date_read_of l; sum = capped_at l 4 }
 
-unfoldable pub year_read_of : Line → YearRead
-year_read_of l = record { formed = is_formed B l; year = capped_at l 1 }
-
+-- R
 unfoldable pub rate_read_of : Line → RateRead
-rate_read_of l = record { formed = is_formed R l; year = capped_at l 1; rate = capped_at l 2 }
-
-unfoldable pub count_read_of : Line → CountRead
-count_read_of l = record { formed = is_formed E l; count = capped_at l 1 }
+rate_read_of l = record { year = capped_at l 1; rate = capped_at l 2 }

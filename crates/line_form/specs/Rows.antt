@@ -6,7 +6,6 @@ use Rattle.text.specs.Numbers.{is_number, value_of, is_dash, most}
 use Rattle.meaning.specs.Line.{Line, Tag, C, P, Form, number, number_or_dash, most_power, most_profile}
 use Rattle.line_form.specs.Reads.{in_forms}
 use Rattle.line_form.specs.Codes.{dash}
-use Rattle.line_form.specs.declared.values.Row.{Row}
 
 abbrev pub row_tag : Bool → Tag
 row_tag true = C
@@ -29,6 +28,6 @@ row_at dashes l n = tab 20 0 (λ h. code_of dashes (field_at l (n + h)))
 unfoldable pub is_above : Bool → ℕ → ℕ → Bool
 is_above dashes b v = not (dashes && eqb v dash) && ltb b v
 
--- the 20 fields after the date
-unfoldable pub row_of : Bool → Line → Row
-row_of dashes l = record { formed = in_forms (replicate 20 (row_form dashes)) (rest_at l 4); codes = row_at dashes l 4 }
+-- whether the 20 fields after the date are in their form
+unfoldable pub is_row_formed : Bool → Line → Bool
+is_row_formed dashes l = in_forms (replicate 20 (row_form dashes)) (rest_at l 4)

@@ -1,7 +1,9 @@
 -- The shape of a field (document 01, Calls and the lines of a file: numbers, the edition's text, letters and the dash).
-use Rattle.std.specs.Prelude.{Bool, true, false, cond, List, [], ◌∷◌, ℕ}
+use Rattle.std.specs.Prelude.{Bool, true, false, cond, List, [], ◌∷◌, ℕ, Option}
+use Rattle.std.specs.Bool.{then_some}
 use Rattle.text.specs.Fields.{reads, edition}
 use Rattle.text.specs.Numbers.{is_number}
+use Rattle.line_form.specs.declared.Field.{Field}
 use Rattle.line_form.specs.declared.Shape.{Shape}
 use Rattle.line_form.specs.declared.Shape.TheVariants.{Number, Edition, Byte, Other}
 
@@ -40,3 +42,7 @@ byte_of Number = 0
 byte_of Edition = 0
 byte_of (Byte b) = b
 byte_of Other = 0
+
+-- the number of a field, where it is one
+unfoldable pub number_of : Field → Option ℕ
+number_of f = then_some (is_numeral f.shape) f.value

@@ -4,7 +4,7 @@ use Rattle.lists.specs.Lists.{any}
 use Rattle.calendar.specs.declared.Years.{Years}
 use Rattle.calendar.specs.Spans.{among}
 use Rattle.line_form.specs.Codes.{is_point_outside, is_profile_outside}
-use Rattle.line_form.specs.declared.values.DateRead.{DateRead}
+use Rattle.line_form.specs.declared.parts.DateRead.{DateRead}
 
 unfoldable pub is_points_outside : Years → DateRead → List ℕ → Bool
 is_points_outside h r codes = not (among h r.year) || any is_point_outside codes

@@ -1,9 +1,10 @@
 -- A tag, and the site of an S line, in the code and in the definitions of document 01.
+use Rattle.std.specs.Prelude.{Option, Some, None}
 use Rattle.meaning.specs.Filing as meant
 use Rattle.meaning.specs.Filing.{no_meter, curve_meter, index_meter, site}
 use Rattle.meaning.specs.Line as lines
 use Rattle.line_form.specs.declared.Tag.{Tag}
-use Rattle.line_form.specs.declared.Tag.TheVariants.{S, C, X, D, P, B, R, E, Unknown}
+use Rattle.line_form.specs.declared.Tag.TheVariants.{S, C, X, D, P, B, R, E}
 use Rattle.line_form.specs.declared.Meter.{Meter}
 use Rattle.line_form.specs.declared.Meter.TheVariants.{NoMeter, Curve, Index}
 use Rattle.line_form.specs.declared.Site.{Site}
@@ -17,7 +18,11 @@ tag_view P = lines.P
 tag_view B = lines.B
 tag_view R = lines.R
 tag_view E = lines.E
-tag_view Unknown = lines.other
+
+-- a tag, or none: `other` stands for both an unknown tag and none
+abbrev pub known_view : Option Tag → lines.Tag
+known_view None = lines.other
+known_view (Some t) = tag_view t
 
 abbrev pub meter_view : Meter → meant.Meter
 meter_view NoMeter = no_meter

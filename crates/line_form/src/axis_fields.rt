@@ -1,58 +1,51 @@
 // X and D lines: a date, and a number.
 ghost use Rattle.std.specs.Prelude.{◌≡◌};
+ghost use Rattle.meaning.specs.Line.{X, D, kind_of_letter};
 ghost use Rattle.line_form.specs.Fields.{EachLine};
-ghost use Rattle.line_form.specs.Reads.{reading_read_of, daily_read_of};
+ghost use Rattle.line_form.specs.Reads.{where_formed, kind_where, reading_read_of, daily_read_of};
 
 use crate::Fields;
-use crate::parts::{byte_of, is_dated, is_number};
+use crate::parts::{DateRead, byte_of, number_of, read_date};
 use readings::{Kind, is_kind, kind_of};
-use text::and;
 
-// What an X line says, and whether its fields are in their form.
+// What an X line says.
 #[derive(Clone, Copy)]
 pub struct ReadingRead {
-    pub formed: bool,
-    pub year: u64,
-    pub month: u64,
-    pub day: u64,
+    pub date: DateRead,
     pub index: u64,
     pub kind: Kind,
 }
 
-// What a D line says, and whether its fields are in their form.
+// What a D line says.
 #[derive(Clone, Copy)]
 pub struct DailyRead {
-    pub formed: bool,
-    pub year: u64,
-    pub month: u64,
-    pub day: u64,
+    pub date: DateRead,
     pub sum: u64,
 }
 
-pub fn read_reading(fields: Fields) -> ReadingRead
-    ensures { EachLine fields (λ l. result ≡ reading_read_of l) }
+// The kind of a letter; none where it is none of the three (5).
+#[tactic(auto, unfolding(crate::specs::Reads::kind_where))]
+fn known_kind(letter: u8) -> Option<Kind>
+    ensures { result ≡ kind_where (kind_of_letter letter) }
 {
-    let letter = byte_of(fields.fields[5]);
-    let end = and(is_number(fields.fields[4]), is_kind(letter));
-    ReadingRead {
-        formed: and(is_dated(fields), end),
-        year: fields.fields[1].value,
-        month: fields.fields[2].value,
-        day: fields.fields[3].value,
-        index: fields.fields[4].value,
-        kind: kind_of(letter),
-    }
+    is_kind(letter).then_some(kind_of(letter))
 }
 
-pub fn read_daily(fields: Fields) -> DailyRead
-    ensures { EachLine fields (λ l. result ≡ daily_read_of l) }
+// The fields of an X line; none where one is not in its form (5).
+pub fn read_reading(fields: Fields) -> Option<ReadingRead>
+    ensures { EachLine fields (λ l. result ≡ where_formed X l (reading_read_of l)) }
 {
-    let sum = is_number(fields.fields[4]);
-    DailyRead {
-        formed: and(is_dated(fields), sum),
-        year: fields.fields[1].value,
-        month: fields.fields[2].value,
-        day: fields.fields[3].value,
-        sum: fields.fields[4].value,
-    }
+    let date = read_date(fields)?;
+    let index = number_of(fields.fields[4])?;
+    let kind = known_kind(byte_of(fields.fields[5]))?;
+    Some(ReadingRead { date, index, kind })
+}
+
+// The fields of a D line; none where one is not in its form (5).
+pub fn read_daily(fields: Fields) -> Option<DailyRead>
+    ensures { EachLine fields (λ l. result ≡ where_formed D l (daily_read_of l)) }
+{
+    let date = read_date(fields)?;
+    let sum = number_of(fields.fields[4])?;
+    Some(DailyRead { date, sum })
 }

@@ -1,47 +1,47 @@
 // The form of a line: 2, 3 and 5. One pass over its bytes finds its fields; the tag and the numbers of each tag come from these.
 //
 // A field is kept as its shape (a number, the edition, a single byte, or none of these) and its number, capped at 10^18, which is above every field's
-// range: 3 to 12 use shapes and numbers, and no byte is read again. The reader of a tag takes the fields of any line and says whether each field
-// after the tag is in its form (5).
+// range: 3 to 12 use shapes and numbers, and no byte is read again. The reader of a tag takes the fields of any line, and gives what the line
+// says, or none where a field after the tag is not in its form (5).
 #![tactic(auto)]
 
 mod shapes; // the shape of a field
 mod table; // all fields of a line, and whether it is legible (2)
 mod tags; // the tag of a line, and whether it has the tag's number of fields (3)
-mod parts; // what the readers share: numbers, and the date after the tag
+mod parts; // what the readers share: a number, and the date after the tag
 mod site_fields; // the fields of S
 mod year_fields; // the fields of B, R and E
 mod axis_fields; // the fields of X and D
 mod values; // the fields of C and P: a date and 20 values, each as a code: its number, or DASH for a missing point
 
-pub use axis_fields::{read_daily, read_reading};
+pub use axis_fields::{DailyRead, ReadingRead, read_daily, read_reading};
+pub use parts::DateRead;
 pub use site_fields::{is_too_soon, read_site};
 pub use table::read_fields;
 pub use tags::{known_tag, rank};
 pub use values::{read_points, read_profiles};
-pub use year_fields::{read_count, read_rate, read_year};
+pub use year_fields::{RateRead, read_count, read_rate, read_year};
 
-// The tags in file order; Unknown for a line with an unknown tag or a wrong number of fields (3).
-#[derive(Clone, Copy)]
+// The tags, each with its place in file order.
+#[derive(Clone, Copy, Debug, PartialEq, Eq)]
 pub enum Tag {
-    S,
-    C,
-    X,
-    D,
-    P,
-    B,
-    R,
-    E,
-    Unknown,
+    S = 1,
+    C = 2,
+    X = 3,
+    D = 4,
+    P = 5,
+    B = 6,
+    R = 7,
+    E = 8,
 }
 
-// The rank of the last tag before any line, and after E.
+// The rank of the last tag before any line, and after E: numbers, since a record keeps its last tag as one.
 pub const NO_TAG: u64 = 0;
 
 pub const END_TAG: u64 = 8;
 
 // T is a curve meter, I an index meter.
-#[derive(Clone, Copy)]
+#[derive(Clone, Copy, Debug, PartialEq, Eq)]
 pub enum Meter {
     NoMeter,
     Curve,
@@ -58,7 +58,7 @@ pub struct Site {
 }
 
 // The shape of a field; a single digit is a number.
-#[derive(Clone, Copy)]
+#[derive(Clone, Copy, Debug, PartialEq, Eq)]
 pub enum Shape {
     Number,
     Edition,
@@ -66,14 +66,15 @@ pub enum Shape {
     Other,
 }
 
-// A field: its shape, and its number, capped at 10^18.
+// A field: its shape, and its number, capped at 10^18. The number stands beside the shape and not in it: a C or P line's codes are promised for a value
+// that is no number too.
 #[derive(Clone, Copy)]
 pub struct Field {
     pub shape: Shape,
     pub value: u64,
 }
 
-// The number of fields of a line, 25 where there are more than 24 and 0 where the line is illegible (2); and the fields.
+// The number of fields of a legible line, 25 where there are more than 24; and the first 24 of them, in a table of fixed size since there is no heap.
 #[derive(Clone, Copy)]
 pub struct Fields {
     pub count: usize,

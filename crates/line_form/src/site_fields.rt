@@ -1,55 +1,30 @@
 // S lines: edition, AL, filière, meter, PS.
 ghost use Rattle.std.specs.Prelude.{◌≡◌};
-ghost use Rattle.meaning.specs.Line.{meter_of_letter, is_meter};
+ghost use Rattle.meaning.specs.Line.{S, meter_of_letter};
 ghost use Rattle.meaning.specs.Refusals.{is_too_soon};
 ghost use Rattle.line_form.specs.Shapes.{is_edition};
 ghost use Rattle.line_form.specs.Fields.{EachLine};
-ghost use Rattle.line_form.specs.Views.{meter_view, meter_repr};
-ghost use Rattle.line_form.specs.Reads.{site_read_of};
+ghost use Rattle.line_form.specs.Reads.{where_formed, meter_where, site_read_of};
 
-use crate::parts::{byte_of, is_number};
+use crate::parts::{byte_of, number_of};
 use crate::{Field, Fields, Meter, Shape, Site};
-use text::and;
 
-// What an S line says, and whether its fields are in their form.
-#[derive(Clone, Copy)]
-pub struct SiteRead {
-    pub formed: bool,
-    pub site: Site,
-}
-
-// The meter of a letter, T or I.
-#[tactic(auto, unfolding(meaning::specs::Line::meter_of_letter))]
-fn meter_of(letter: u8) -> Meter
-    ensures { result ≡ meter_repr (meter_of_letter letter) }
+// The meter of a letter, T or I; none for any other (5).
+#[tactic(auto, unfolding(meaning::specs::Line::meter_of_letter, crate::specs::Reads::meter_where))]
+fn meter_of(letter: u8) -> Option<Meter>
+    ensures { result ≡ meter_where (meter_of_letter letter) }
 {
     match letter {
-        b'T' => Meter::Curve,
-        b'I' => Meter::Index,
-        _ => Meter::NoMeter,
-    }
-}
-
-fn is_meter(meter: Meter) -> bool
-    ensures { result ≡ is_meter (meter_view meter) }
-{
-    match meter {
-        Meter::NoMeter => false,
-        Meter::Curve => true,
-        Meter::Index => true,
+        b'T' => Some(Meter::Curve),
+        b'I' => Some(Meter::Index),
+        _ => None,
     }
 }
 
 fn is_edition(field: Field) -> bool
     ensures { result ≡ is_edition field.shape }
 {
-    let shape = field.shape;
-    match shape {
-        Shape::Number => false,
-        Shape::Edition => true,
-        Shape::Byte(_) => false,
-        Shape::Other => false,
-    }
+    matches!(field.shape, Shape::Edition)
 }
 
 // 9: filières 6 to 11 are certified only from AL 2023 on.
@@ -57,23 +32,24 @@ fn is_edition(field: Field) -> bool
 pub fn is_too_soon(al: u64, filiere: u64) -> bool
     ensures { result ≡ is_too_soon al filiere }
 {
-    and(6 <= filiere, al < 2023)
+    6 <= filiere && al < 2023
 }
 
-pub fn read_site(fields: Fields) -> SiteRead
-    ensures { EachLine fields (λ l. result ≡ site_read_of l) }
+// The site of an S line; none where a field is not in its form (5).
+pub fn read_site(fields: Fields) -> Option<Site>
+    ensures { EachLine fields (λ l. result ≡ where_formed S l (site_read_of l)) }
 {
-    let meter = meter_of(byte_of(fields.fields[4]));
-    let end = and(is_meter(meter), is_number(fields.fields[5]));
-    let filiere = is_number(fields.fields[3]);
-    let numbers = and(is_number(fields.fields[2]), and(filiere, end));
-    SiteRead {
-        formed: and(is_edition(fields.fields[1]), numbers),
-        site: Site {
-            al: fields.fields[2].value,
-            filiere: fields.fields[3].value,
-            meter,
-            ps: fields.fields[5].value,
-        },
+    if !is_edition(fields.fields[1]) {
+        return None;
     }
+    let al = number_of(fields.fields[2])?;
+    let filiere = number_of(fields.fields[3])?;
+    let meter = meter_of(byte_of(fields.fields[4]))?;
+    let ps = number_of(fields.fields[5])?;
+    Some(Site {
+        al,
+        filiere,
+        meter,
+        ps,
+    })
 }

@@ -2,44 +2,34 @@
 ghost use Rattle.std.specs.Prelude.{◌≡◌};
 ghost use Rattle.meaning.specs.Line.{rank as rank_of, size, tag_of_letter};
 ghost use Rattle.line_form.specs.Fields.{EachLine};
-ghost use Rattle.line_form.specs.Views.{tag_view};
+ghost use Rattle.line_form.specs.Views.{tag_view, known_view};
 ghost use Rattle.line_form.specs.Tags.{known_tag};
 
 use crate::parts::byte_of;
 use crate::{Fields, Tag};
 
 #[tactic(auto, unfolding(meaning::specs::Line::tag_of_letter))]
-fn tag_of(letter: u8) -> Tag
-    ensures { tag_view result ≡ tag_of_letter letter }
+fn tag_of(letter: u8) -> Option<Tag>
+    ensures { known_view result ≡ tag_of_letter letter }
 {
     match letter {
-        b'S' => Tag::S,
-        b'C' => Tag::C,
-        b'X' => Tag::X,
-        b'D' => Tag::D,
-        b'P' => Tag::P,
-        b'B' => Tag::B,
-        b'R' => Tag::R,
-        b'E' => Tag::E,
-        _ => Tag::Unknown,
+        b'S' => Some(Tag::S),
+        b'C' => Some(Tag::C),
+        b'X' => Some(Tag::X),
+        b'D' => Some(Tag::D),
+        b'P' => Some(Tag::P),
+        b'B' => Some(Tag::B),
+        b'R' => Some(Tag::R),
+        b'E' => Some(Tag::E),
+        _ => None,
     }
 }
 
-// The place of a tag in file order, 0 for no tag. A record keeps the last tag by its rank.
+// The place of a tag in file order. A record keeps the last tag by its rank.
 pub fn rank(tag: Tag) -> u64
     ensures { result ≡ rank_of (tag_view tag) }
 {
-    match tag {
-        Tag::S => 1,
-        Tag::C => 2,
-        Tag::X => 3,
-        Tag::D => 4,
-        Tag::P => 5,
-        Tag::B => 6,
-        Tag::R => 7,
-        Tag::E => 8,
-        Tag::Unknown => 0,
-    }
+    tag as u64
 }
 
 // The number of fields of a line of a tag, the tag included.
@@ -47,25 +37,23 @@ fn field_count(tag: Tag) -> usize
     ensures { result ≡ size (tag_view tag) }
 {
     match tag {
-        Tag::S => 6,
-        Tag::C => 24,
-        Tag::X => 6,
+        Tag::C | Tag::P => 24,
+        Tag::S | Tag::X => 6,
         Tag::D => 5,
-        Tag::P => 24,
-        Tag::B => 2,
         Tag::R => 3,
-        Tag::E => 2,
-        Tag::Unknown => 0,
+        Tag::B | Tag::E => 2,
     }
 }
 
-// The tag of a legible line, none where it does not have the tag's number of fields (3).
-pub fn known_tag(fields: Fields) -> Tag
-    ensures { EachLine fields (λ l. tag_view result ≡ known_tag l) }
+// The tag of a legible line, none where it is unknown or the line does not have the tag's number of fields (3).
+#[tactic(auto, using(crate::proofs::TagLaws::known, crate::proofs::TagLaws::not_known, crate::proofs::TagLaws::no_letter))]
+pub fn known_tag(fields: Fields) -> Option<Tag>
+    ensures { EachLine fields (λ l. known_view result ≡ known_tag l) }
 {
-    let tag = tag_of(byte_of(fields.fields[0]));
+    let tag = tag_of(byte_of(fields.fields[0]))?;
     if fields.count == field_count(tag) {
-        return tag;
+        Some(tag)
+    } else {
+        None
     }
-    Tag::Unknown
 }

@@ -1,62 +1,38 @@
 // B, R and E lines: a year; a year and its rate; a count.
 ghost use Rattle.std.specs.Prelude.{◌≡◌};
+ghost use Rattle.meaning.specs.Line.{B, R, E};
 ghost use Rattle.line_form.specs.Fields.{EachLine};
-ghost use Rattle.line_form.specs.Reads.{year_read_of, rate_read_of, count_read_of};
+ghost use Rattle.line_form.specs.Reads.{where_formed, capped_at, rate_read_of};
 
 use crate::Fields;
-use crate::parts::is_number;
-use text::and;
+use crate::parts::number_of;
 
-// What a B line says, and whether its fields are in their form.
-#[derive(Clone, Copy)]
-pub struct YearRead {
-    pub formed: bool,
-    pub year: u64,
-}
-
-// What an R line says, and whether its fields are in their form.
+// What an R line says.
 #[derive(Clone, Copy)]
 pub struct RateRead {
-    pub formed: bool,
     pub year: u64,
     pub rate: u64,
 }
 
-// What an E line says, and whether its fields are in their form.
-#[derive(Clone, Copy)]
-pub struct CountRead {
-    pub formed: bool,
-    pub count: u64,
+// The year of a B line; none where it is not in its form (5).
+pub fn read_year(fields: Fields) -> Option<u64>
+    ensures { EachLine fields (λ l. result ≡ where_formed B l (capped_at l 1)) }
+{
+    number_of(fields.fields[1])
 }
 
-pub fn read_year(fields: Fields) -> YearRead
-    ensures { EachLine fields (λ l. result ≡ year_read_of l) }
+// The year and the rate of an R line; none where one is not in its form (5).
+pub fn read_rate(fields: Fields) -> Option<RateRead>
+    ensures { EachLine fields (λ l. result ≡ where_formed R l (rate_read_of l)) }
 {
-    let year = fields.fields[1].value;
-    YearRead {
-        formed: is_number(fields.fields[1]),
-        year,
-    }
+    let year = number_of(fields.fields[1])?;
+    let rate = number_of(fields.fields[2])?;
+    Some(RateRead { year, rate })
 }
 
-pub fn read_rate(fields: Fields) -> RateRead
-    ensures { EachLine fields (λ l. result ≡ rate_read_of l) }
+// The count of an E line; none where it is not in its form (5).
+pub fn read_count(fields: Fields) -> Option<u64>
+    ensures { EachLine fields (λ l. result ≡ where_formed E l (capped_at l 1)) }
 {
-    let year = is_number(fields.fields[1]);
-    let rate = is_number(fields.fields[2]);
-    RateRead {
-        formed: and(year, rate),
-        year: fields.fields[1].value,
-        rate: fields.fields[2].value,
-    }
-}
-
-pub fn read_count(fields: Fields) -> CountRead
-    ensures { EachLine fields (λ l. result ≡ count_read_of l) }
-{
-    let formed = is_number(fields.fields[1]);
-    CountRead {
-        formed,
-        count: fields.fields[1].value,
-    }
+    number_of(fields.fields[1])
 }

@@ -1,7 +1,8 @@
--- C and P: the checks of the code are the conditions of the line's refusal, and what it reads from an accepted line is what the line says.
+-- C and P: the refusal of a line and what an accepted one says, by the checks of the code in order.
+use Rattle.std.specs.Prelude.{Ok}
+use Rattle.refusals.specs.Refusals.{unless_reason}
 use mathlib.Core.Path.{◌≡◌, refl, ap, sym, ◌∙◌}
-use mathlib.Core.Bool.{Bool, true, false, not, ◌&&◌, ◌||◌}
-use mathlib.Core.Option.{none}
+use mathlib.Core.Bool.{Bool, true, false, not, ◌||◌}
 use Prim.Native.Nat.{ℕ}
 use lib.Dec.{T}
 use borrow.Author.Tests.{not-false}
@@ -16,25 +17,20 @@ use Rattle.meaning.specs.Line.{Line, Tag, C, P, S, X, E, is, key_of, year_on, wi
 use Rattle.meaning.specs.Refusals.{Before, outside, no_date, holds, refusal, is_outside, has_no_date}
 use Rattle.line_form.specs.Ranges.{no_date_for}
 use Rattle.line_form.proofs.Capped.{early_history}
+use Rattle.line_form.proofs.Forms.{malformed}
 use Rattle.line_form.proofs.Checks.{no_date_lem}
 use Rattle.line_form.specs.Codes.{point_row, profile_row, is_point_outside, is_profile_outside}
-use Rattle.line_form.specs.ValueReads.{date_read_of}
+use Rattle.line_form.specs.Reads.{where_formed, is_formed, date_read_of}
 use Rattle.line_form.specs.ValueRanges.{is_points_outside, is_profiles_outside}
-use Rattle.line_form.specs.declared.values.DateRead.{DateRead}
-use Rattle.line_form.proofs.ValueChecks.{malformed_row, outside_c, outside_p, exact_c, exact_p}
+use Rattle.line_form.specs.declared.parts.DateRead.{DateRead}
+use Rattle.line_form.proofs.ValueChecks.{outside_c, outside_p, exact_c, exact_p}
 use Rattle.line_checks.specs.Before.{Known, is_not_later, before_like, before_points, before_rising}
-use Rattle.line_checks.specs.Order.{number_by, first_refusal, is_misplaced}
-use Rattle.line_checks.proofs.Chain.{Asks, clear, misplaced_other, misplaced_rank, never_soon, never_falling, never_many, no_count}
-use Rattle.line_checks.proofs.ByTag.{number_is}
+use Rattle.line_checks.specs.Order.{is_misplaced}
+use Rattle.line_checks.proofs.Chain.{Asks, clear, told, told_same, next_dated, after_two, misplaced_other, misplaced_rank, never_soon, never_falling, never_many, no_count}
 use Rattle.line_steps.specs.Places.{points_misplaced}
 use Rattle.line_checks.proofs.Dates.{history_low, key_on, winter_on_lem}
-use Rattle.line_steps.proofs.PointChecked.{DateSays}
-
--- a year outside the span, or some value outside its range
-off : (a v : Bool) → (not a || v) ≡ not (a && not v)
-off true true = refl
-off true false = refl
-off false v = refl
+use Rattle.line_steps.specs.PointAnswers.{date_on, winter_checked}
+use Rattle.line_steps.specs.declared.points_and_profiles.checks.DateChecked.{DateChecked}
 
 -- ---- C and P together: a tag t of winter dates, whether the line is misplaced, and whether some value is outside its range
 pub record Winter (t : Tag) (l : Line) (b : Before) (h : Years) (latest : ℕ) (late above : Bool) : Type 0 where
@@ -44,34 +40,34 @@ pub record Winter (t : Tag) (l : Line) (b : Before) (h : Years) (latest : ℕ) (
   pub barred_is : b.misplaced t ≡ late
   pub history_is : b.history ≡ h
   pub reached_by : (v : ℕ) → b.not_later t v ≡ is_not_later latest v
-  pub off_is : is_outside h l ≡ (not (among h (date_read_of t l).year) || above)
-  pub exact : is_outside h l ≡ false → (date_read_of t l).year ≡ year_on l
+  pub off_is : is_outside h l ≡ (not (among h (date_read_of l).year) || above)
+  pub exact : is_outside h l ≡ false → (date_read_of l).year ≡ year_on l
   pub others : (is S t ≡ false) × ((is X t ≡ false) × (is E t ≡ false))
 
 module _ (t : Tag) (l : Line) (b : Before) (al f latest : ℕ) (late above : Bool) (c : Winter t l b (history_years al f) latest late above) where
-  year_in : is_outside (history_years al f) l ≡ false → among (history_years al f) (date_read_of t l).year ≡ true
-  year_in o = not-false _ (or_parts (not (among (history_years al f) (date_read_of t l).year)) above (sym c.off_is ∙ o)).0
+  year_in : is_outside (history_years al f) l ≡ false → among (history_years al f) (date_read_of l).year ≡ true
+  year_in o = not-false _ (or_parts (not (among (history_years al f) (date_read_of l).year)) above (sym c.off_is ∙ o)).0
 
-  key_in : is_outside (history_years al f) l ≡ false → has_no_date l ≡ false → key_for (date_read_of t l).year (date_read_of t l).month (date_read_of t l).day ≡ key_of t l
+  key_in : is_outside (history_years al f) l ≡ false → has_no_date l ≡ false → key_for (date_read_of l).year (date_read_of l).month (date_read_of l).day ≡ key_of t l
   unfolding date_read_of
-  key_in o d = key_on t l c.known.tag c.dated d (date_read_of t l).year (c.exact o) (history_low al f (date_read_of t l).year (year_in o))
+  key_in o d = key_on t l c.known.tag c.dated d (date_read_of l).year (c.exact o) (history_low al f (date_read_of l).year (year_in o))
 
-  place_in : has_no_date l ≡ false → place_or (winter_place_of (date_read_of t l).month (date_read_of t l).day) ≡ winter_on l
+  place_in : has_no_date l ≡ false → place_or (winter_place_of (date_read_of l).month (date_read_of l).day) ≡ winter_on l
   unfolding date_read_of
   place_in d = winter_on_lem t l c.known.tag c.dated d c.winter
 
-  date_in_lem : is_outside (history_years al f) l ≡ false → has_no_date l ≡ no_date_for true (date_read_of t l).year (date_read_of t l).month (date_read_of t l).day
+  date_in_lem : is_outside (history_years al f) l ≡ false → has_no_date l ≡ no_date_for true (date_read_of l).year (date_read_of l).month (date_read_of l).day
   unfolding date_read_of
   date_in_lem o =
-      no_date_lem t l (date_read_of t l).year c.known.tag c.dated (c.exact o)
-      ∙ ap (λ (x : Bool). no_date_for x (date_read_of t l).year (date_read_of t l).month (date_read_of t l).day) (is_true (is_winter_tag t) c.winter)
+      no_date_lem t l (date_read_of l).year c.known.tag c.dated (c.exact o)
+      ∙ ap (λ (x : Bool). no_date_for x (date_read_of l).year (date_read_of l).month (date_read_of l).day) (is_true (is_winter_tag t) c.winter)
 
   asks : Asks b l (record {
     misplaced = late;
-    malformed = not (date_read_of t l).formed;
-    outside = not (among (history_years al f) (date_read_of t l).year && not above);
-    no_date = no_date_for true (date_read_of t l).year (date_read_of t l).month (date_read_of t l).day;
-    not_later = is_not_later latest (key_for (date_read_of t l).year (date_read_of t l).month (date_read_of t l).day);
+    malformed = not (is_formed t l);
+    outside = not (among (history_years al f) (date_read_of l).year) || above;
+    no_date = no_date_for true (date_read_of l).year (date_read_of l).month (date_read_of l).day;
+    not_later = is_not_later latest (key_for (date_read_of l).year (date_read_of l).month (date_read_of l).day);
     too_soon = false;
     falling = false;
     too_many = false;
@@ -83,8 +79,8 @@ module _ (t : Tag) (l : Line) (b : Before) (al f latest : ℕ) (late above : Boo
       let q = c.history_is in
       record {
         misplaced_is = ap (λ (x : Tag). b.misplaced x) u ∙ c.barred_is;
-        malformed_is = malformed_row t l u;
-        outside_is = rw q (c.off_is ∙ off (among (history_years al f) (date_read_of t l).year) above);
+        malformed_is = malformed t l u;
+        outside_is = rw q c.off_is;
         date_is = λ o. date_in_lem (rw q at o);
         later_is = λ o d. ap (λ (x : Tag). b.not_later x (key_of x l)) u ∙ c.reached_by (key_of t l) ∙ ap (is_not_later latest) (sym (key_in (rw q at o) d));
         soon_is = λ _. never_soon b l t u c.others.0;
@@ -93,29 +89,23 @@ module _ (t : Tag) (l : Line) (b : Before) (al f latest : ℕ) (late above : Boo
         count_is = λ _. no_count b l t u c.others.1.1;
       }
 
-  pub winter_number : (r : DateRead) (y : Years) (m a x i d e : Bool) (v n : ℕ) → r ≡ date_read_of t l → m ≡ late → y ≡ history_years al f → a ≡ among y r.year → x ≡ above
-      → i ≡ (a && not x) → d ≡ no_date_for true r.year r.month r.day → v ≡ key_for r.year r.month r.day → e ≡ is_not_later latest v
-      → n ≡ first_refusal (record {
-        misplaced = m;
-        malformed = not r.formed;
-        outside = not i;
-        no_date = d;
-        not_later = e;
-        too_soon = false;
-        falling = false;
-        too_many = false;
-        miscounted = false;
-      })
-      → n ≡ number_by (refusal b l)
-  winter_number r y m a x i d e v n er em ey ea ex ei ed ev ee en = number_is t b l _ c.known asks n (en ∙ rw (em, ei, ea, ex, ed, ee, ev, ey, er))
+  found : DateRead → ℕ → DateChecked
+  found d v = record { year = d.year; place = place_or (winter_place_of d.month d.day); key = v }
 
-  pub winter_says : (r : DateRead) (p v : ℕ) → r ≡ date_read_of t l → p ≡ place_or (winter_place_of r.month r.day) → v ≡ key_for r.year r.month r.day
-      → refusal b l ≡ none → DateSays t l r.year p v
-  unfolding holds
-  winter_says r p v er ep ev q =
-      let o : is_outside (history_years al f) l ≡ false = rw c.history_is at (clear b l q outside) in
-      let d : has_no_date l ≡ false = clear b l q no_date in
-      record { year_is = rw er (c.exact o); place_is = ep ∙ rw er (place_in d); key_is = ev ∙ rw er (key_in o d) }
+  same_date : is_outside (history_years al f) l ≡ false → has_no_date l ≡ false → date_on t l ≡ found (date_read_of l) (key_for (date_read_of l).year (date_read_of l).month (date_read_of l).day)
+  unfolding date_on found
+  same_date o d = rw (← c.exact o, ← place_in d, ← key_in o d)
+
+  pub winter_told : unless_reason (refusal b l) (date_on t l) ≡ winter_checked late (where_formed t l (date_read_of l)) above (history_years al f) latest
+  unfolding holds where_formed winter_checked found
+  winter_told =
+      let h = history_years al f in
+      let d = date_read_of l in
+      let v = key_for d.year d.month d.day in
+      let out : Bool = not (among h d.year) || above in
+      told_same (refusal b l) (date_on t l) (found d v) (λ q. same_date (rw c.history_is at (clear b l q outside)) (clear b l q no_date))
+      ∙ told t b l _ (found d v) c.known asks
+      ∙ after_two late (is_formed t l) d _ _ (next_dated out true d latest (λ w. Ok (found d w)) _ refl)
 
 -- ---- C
 pub points_winter : (l : Line) (last al f latest : ℕ) (m : Meter) → Known C l

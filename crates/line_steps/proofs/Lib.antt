@@ -1,9 +1,6 @@
-pub mod Checked
 pub mod SiteSteps
-pub mod PointChecked
 pub mod InWinter
 pub mod PointSteps
-pub mod ReadingChecked
 pub mod OnAxis
 pub mod ReadingSteps
 pub mod YearSteps

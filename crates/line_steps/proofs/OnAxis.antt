@@ -1,66 +1,65 @@
--- X and D: the checks of the code are the conditions of the line's refusal, and what it reads from an accepted line is what the line says.
+-- X and D: the refusal of a line and what an accepted one says, by the checks of the code in order.
+use Rattle.std.specs.Prelude.{Ok}
+use Rattle.refusals.specs.declared.Refusal.TheVariants.{Falling, TooMany}
+use Rattle.refusals.specs.Refusals.{unless_reason}
 use mathlib.Core.Path.{◌≡◌, refl, ap, sym, ◌∙◌}
-use mathlib.Core.Bool.{Bool, true, false, not, ◌&&◌, ◌||◌}
-use mathlib.Core.Option.{none}
+use mathlib.Core.Bool.{true, false, not}
 use Prim.Native.Nat.{ℕ}
 use lib.Dec.{leb, ltb}
 use borrow.Author.Tests.{not-false}
 use Rattle.lists.proofs.Tests.{or_parts}
-use Rattle.calendar.specs.declared.Years.{Years}
 use Rattle.calendar.specs.Spans.{among, axis_years, history_years, position_of}
 use Rattle.calendar.specs.Answers.{position_in}
 use Rattle.text.specs.Fields.{field_at}
 use Rattle.meaning.specs.Line.{Line, X, D, kind_of, key_of, year_on, month_on, day_on, most_index, most_daily}
 use Rattle.meaning.specs.Refusals.{outside, no_date, holds, refusal, is_outside, has_no_date}
 use Rattle.readings.specs.Readings.{kind_repr}
-use Rattle.line_form.specs.Reads.{reading_read_of, daily_read_of}
+use Rattle.line_form.specs.Reads.{where_formed, is_formed, date_read_of, reading_read_of, daily_read_of}
 use Rattle.line_form.specs.Ranges.{is_reading_outside, is_daily_outside, no_date_for}
 use Rattle.line_form.specs.declared.axis_fields.ReadingRead.{ReadingRead}
 use Rattle.line_form.specs.declared.axis_fields.DailyRead.{DailyRead}
-use Rattle.line_form.proofs.Capped.{early_history, not_leb}
-use Rattle.line_form.proofs.Checks.{malformed_x, malformed_d, outside_x, outside_d, exact_x, exact_d, no_date_lem}
+use Rattle.line_form.proofs.Capped.{early_history}
+use Rattle.line_form.proofs.Forms.{malformed}
+use Rattle.line_form.proofs.Checks.{outside_x, outside_d, exact_x, exact_d, no_date_lem}
 use Rattle.line_checks.specs.Before.{Known, is_not_later, before_like, before_rising, before_reading}
-use Rattle.line_checks.specs.Order.{number_by, first_refusal, is_misplaced}
-use Rattle.line_checks.proofs.Chain.{Asks, clear, misplaced_rank, never_soon, never_falling, never_many, no_count}
-use Rattle.line_checks.proofs.ByTag.{number_is, not_both}
-use Rattle.line_checks.specs.Places.{place_or, key_for}
+use Rattle.line_checks.specs.Order.{and_then, refused_if, in_order, is_misplaced}
+use Rattle.line_checks.proofs.Chain.{Asks, clear, told, told_same, next_one, next_dated, after_two, misplaced_rank, never_soon, never_falling, never_many, no_count}
+use Rattle.line_checks.specs.Places.{place_or, key_for, dated_checks}
 use Rattle.line_checks.proofs.Dates.{axis_low, key_on, position_on_lem}
-use Rattle.line_steps.proofs.ReadingChecked.{ReadingSays, DailySays}
-
--- a number above its bound, or a year outside the span
-off : (a : Bool) (v b : ℕ) → (not a || ltb b v) ≡ not (a && leb v b)
-off a v b = ap (λ (x : Bool). not a || x) (sym (not_leb v b)) ∙ sym (not_both a (leb v b))
+use Rattle.line_steps.specs.ReadingAnswers.{reading_on, daily_on}
+use Rattle.line_steps.specs.declared.readings_and_sums.checks.ReadingChecked.{ReadingChecked}
+use Rattle.line_steps.specs.declared.readings_and_sums.checks.DailyChecked.{DailyChecked}
 
 -- ---- X
 module _ (l : Line) (last al f latest previous readings : ℕ) (k : Known X l) where
-  reading_year : is_outside (history_years al f) l ≡ false → among (axis_years (history_years al f)) (reading_read_of l).year ≡ true
+  reading_year : is_outside (history_years al f) l ≡ false → among (axis_years (history_years al f)) (reading_read_of l).date.year ≡ true
   unfolding is_reading_outside
   reading_year o =
       let h = history_years al f in
-      not-false _ (or_parts (not (among (axis_years h) (reading_read_of l).year)) (ltb most_index (reading_read_of l).index) (sym (outside_x h l (early_history al f) k.tag) ∙ o)).0
+      not-false _ (or_parts (not (among (axis_years h) (reading_read_of l).date.year)) (ltb most_index (reading_read_of l).index) (sym (outside_x h l (early_history al f) k.tag) ∙ o)).0
 
-  reading_key : is_outside (history_years al f) l ≡ false → has_no_date l ≡ false → key_for (reading_read_of l).year (reading_read_of l).month (reading_read_of l).day ≡ key_of X l
-  unfolding reading_read_of
-  reading_key o d = key_on X l k.tag tt d (reading_read_of l).year (exact_x (history_years al f) l (early_history al f) k.tag o).0 (axis_low al f (reading_read_of l).year (reading_year o))
+  reading_key : is_outside (history_years al f) l ≡ false → has_no_date l ≡ false → key_for (reading_read_of l).date.year (reading_read_of l).date.month (reading_read_of l).date.day ≡ key_of X l
+  unfolding reading_read_of date_read_of
+  reading_key o d = key_on X l k.tag tt d (reading_read_of l).date.year (exact_x (history_years al f) l (early_history al f) k.tag o).0 (axis_low al f (reading_read_of l).date.year (reading_year o))
 
   reading_position : is_outside (history_years al f) l ≡ false → has_no_date l ≡ false
-      → place_or (position_in (axis_years (history_years al f)) (reading_read_of l).year (reading_read_of l).month (reading_read_of l).day)
+      → place_or (position_in (axis_years (history_years al f)) (reading_read_of l).date.year (reading_read_of l).date.month (reading_read_of l).date.day)
       ≡ position_of (axis_years (history_years al f)) (year_on l) (month_on l) (day_on l)
-  unfolding reading_read_of
+  unfolding reading_read_of date_read_of
   reading_position o d =
       let h = history_years al f in
-      position_on_lem X l k.tag tt d (axis_years h) (reading_read_of l).year (exact_x h l (early_history al f) k.tag o).0 (reading_year o)
+      position_on_lem X l k.tag tt d (axis_years h) (reading_read_of l).date.year (exact_x h l (early_history al f) k.tag o).0 (reading_year o)
 
   reading_kind : (reading_read_of l).kind ≡ kind_repr (kind_of (field_at l 5))
-  unfolding reading_read_of
+  unfolding reading_read_of date_read_of
   reading_kind = refl
 
   reading_asks : Asks (before_reading last (history_years al f) latest previous readings) l (record {
     misplaced = is_misplaced last X;
-    malformed = not (reading_read_of l).formed;
-    outside = not (among (axis_years (history_years al f)) (reading_read_of l).year && leb (reading_read_of l).index most_index);
-    no_date = no_date_for false (reading_read_of l).year (reading_read_of l).month (reading_read_of l).day;
-    not_later = is_not_later latest (key_for (reading_read_of l).year (reading_read_of l).month (reading_read_of l).day);
+    malformed = not (is_formed X l);
+    outside = is_reading_outside (history_years al f) (reading_read_of l);
+    no_date = no_date_for false (reading_read_of l).date.year (reading_read_of l).date.month (reading_read_of l).date.day;
+    not_later = is_not_later latest (key_for (reading_read_of l).date.year (reading_read_of l).date.month (reading_read_of l).date.day);
     too_soon = false;
     falling = ltb (reading_read_of l).index previous;
     too_many = leb 600 readings;
@@ -71,13 +70,12 @@ module _ (l : Line) (last al f latest previous readings : ℕ) (k : Known X l) w
       let h = history_years al f in
       let b = before_reading last h latest previous readings in
       let u = k.tag in
-      let r = reading_read_of l in
       let e = early_history al f in
       record {
         misplaced_is = rw u (misplaced_rank last X refl);
-        malformed_is = malformed_x l u;
-        outside_is = outside_x h l e u ∙ off (among (axis_years h) r.year) r.index most_index;
-        date_is = λ o. unfold reading_read_of in no_date_lem X l (reading_read_of l).year u tt (exact_x h l e u o).0;
+        malformed_is = malformed X l u;
+        outside_is = outside_x h l e u;
+        date_is = λ o. unfold reading_read_of in unfold date_read_of in no_date_lem X l (reading_read_of l).date.year u tt (exact_x h l e u o).0;
         later_is = λ o d. rw u (ap (is_not_later latest) (sym (reading_key o d)));
         soon_is = λ _. never_soon b l X u refl;
         falling_is = λ o. rw u (ap (λ (v : ℕ). ltb v previous) (sym (exact_x h l e u o).1));
@@ -85,65 +83,60 @@ module _ (l : Line) (last al f latest previous readings : ℕ) (k : Known X l) w
         count_is = λ _. no_count b l X u refl;
       }
 
-  pub reading_number : (r : ReadingRead) (y : Years) (m a i d e : Bool) (v n : ℕ) → r ≡ reading_read_of l → m ≡ is_misplaced last X → y ≡ axis_years (history_years al f) → a ≡ among y r.year
-      → i ≡ (a && leb r.index most_index) → d ≡ no_date_for false r.year r.month r.day → v ≡ key_for r.year r.month r.day → e ≡ is_not_later latest v
-      → n ≡ first_refusal (record {
-        misplaced = m;
-        malformed = not r.formed;
-        outside = not i;
-        no_date = d;
-        not_later = e;
-        too_soon = false;
-        falling = ltb r.index previous;
-        too_many = leb 600 readings;
-        miscounted = false;
-      })
-      → n ≡ number_by (refusal (before_reading last (history_years al f) latest previous readings) l)
-  reading_number r y m a i d e v n er em ey ea ei ed ev ee en =
-      number_is X (before_reading last (history_years al f) latest previous readings) l _ k reading_asks n (en ∙ rw (em, ei, ea, ed, ee, ev, ey, er))
+  -- what the code finds of a line with this date
+  reading_found : ReadingRead → ℕ → ReadingChecked
+  reading_found r v = record { position = place_or (position_in (axis_years (history_years al f)) r.date.year r.date.month r.date.day); index = r.index; kind = r.kind; key = v }
 
-  pub reading_says : (r : ReadingRead) (p v : ℕ) → r ≡ reading_read_of l → p ≡ place_or (position_in (axis_years (history_years al f)) r.year r.month r.day) → v ≡ key_for r.year r.month r.day
-      → refusal (before_reading last (history_years al f) latest previous readings) l ≡ none → ReadingSays (history_years al f) l p r.index r.kind v
-  unfolding holds before_reading before_like
-  reading_says r p v er ep ev q =
+  reading_same : is_outside (history_years al f) l ≡ false → has_no_date l ≡ false
+      → reading_on (history_years al f) l ≡ reading_found (reading_read_of l) (key_for (reading_read_of l).date.year (reading_read_of l).date.month (reading_read_of l).date.day)
+  unfolding reading_on reading_found
+  reading_same o d = rw (← reading_position o d, ← (exact_x (history_years al f) l (early_history al f) k.tag o).1, ← reading_kind, ← reading_key o d)
+
+  pub reading_told : unless_reason (refusal (before_reading last (history_years al f) latest previous readings) l) (reading_on (history_years al f) l)
+      ≡ and_then (in_order (is_misplaced last X) (where_formed X l (reading_read_of l)))
+      (λ r. and_then (dated_checks (is_reading_outside (history_years al f) r) false r.date latest)
+      (λ v. and_then (refused_if (ltb r.index previous) Falling)
+      (λ _. and_then (refused_if (leb 600 readings) TooMany)
+      (λ _. Ok (record { position = place_or (position_in (axis_years (history_years al f)) r.date.year r.date.month r.date.day); index = r.index; kind = r.kind; key = v })))))
+  unfolding holds before_reading before_like where_formed reading_found
+  reading_told =
       let h = history_years al f in
       let b = before_reading last h latest previous readings in
-      let o : is_outside h l ≡ false = clear b l q outside in
-      let d : has_no_date l ≡ false = clear b l q no_date in
-      let x = exact_x h l (early_history al f) k.tag o in
-      record {
-        position_is = ep ∙ rw er (reading_position o d);
-        index_is = rw er x.1;
-        kind_is = rw er reading_kind;
-        key_is = ev ∙ rw er (reading_key o d);
-      }
+      let r = reading_read_of l in
+      let v = key_for r.date.year r.date.month r.date.day in
+      told_same (refusal b l) (reading_on h l) (reading_found r v) (λ q. reading_same (clear b l q outside) (clear b l q no_date))
+      ∙ told X b l _ (reading_found r v) k reading_asks
+      ∙ after_two (is_misplaced last X) (is_formed X l) r _ _
+      (next_dated (is_reading_outside h r) false r.date latest
+      (λ w. and_then (refused_if (ltb r.index previous) Falling) (λ _. and_then (refused_if (leb 600 readings) TooMany) (λ _. Ok (reading_found r w)))) _
+      (next_one (ltb r.index previous) Falling _ ∙ ap (λ q. and_then (refused_if (ltb r.index previous) Falling) (λ _. q)) (next_one (leb 600 readings) TooMany (Ok (reading_found r v)))))
 
 -- ---- D
 module _ (l : Line) (last al f latest : ℕ) (k : Known D l) where
-  daily_year : is_outside (history_years al f) l ≡ false → among (axis_years (history_years al f)) (daily_read_of l).year ≡ true
+  daily_year : is_outside (history_years al f) l ≡ false → among (axis_years (history_years al f)) (daily_read_of l).date.year ≡ true
   unfolding is_daily_outside
   daily_year o =
       let h = history_years al f in
-      not-false _ (or_parts (not (among (axis_years h) (daily_read_of l).year)) (ltb most_daily (daily_read_of l).sum) (sym (outside_d h l (early_history al f) k.tag) ∙ o)).0
+      not-false _ (or_parts (not (among (axis_years h) (daily_read_of l).date.year)) (ltb most_daily (daily_read_of l).sum) (sym (outside_d h l (early_history al f) k.tag) ∙ o)).0
 
-  daily_key : is_outside (history_years al f) l ≡ false → has_no_date l ≡ false → key_for (daily_read_of l).year (daily_read_of l).month (daily_read_of l).day ≡ key_of D l
-  unfolding daily_read_of
-  daily_key o d = key_on D l k.tag tt d (daily_read_of l).year (exact_d (history_years al f) l (early_history al f) k.tag o).0 (axis_low al f (daily_read_of l).year (daily_year o))
+  daily_key : is_outside (history_years al f) l ≡ false → has_no_date l ≡ false → key_for (daily_read_of l).date.year (daily_read_of l).date.month (daily_read_of l).date.day ≡ key_of D l
+  unfolding daily_read_of date_read_of
+  daily_key o d = key_on D l k.tag tt d (daily_read_of l).date.year (exact_d (history_years al f) l (early_history al f) k.tag o).0 (axis_low al f (daily_read_of l).date.year (daily_year o))
 
   daily_position : is_outside (history_years al f) l ≡ false → has_no_date l ≡ false
-      → place_or (position_in (axis_years (history_years al f)) (daily_read_of l).year (daily_read_of l).month (daily_read_of l).day)
+      → place_or (position_in (axis_years (history_years al f)) (daily_read_of l).date.year (daily_read_of l).date.month (daily_read_of l).date.day)
       ≡ position_of (axis_years (history_years al f)) (year_on l) (month_on l) (day_on l)
-  unfolding daily_read_of
+  unfolding daily_read_of date_read_of
   daily_position o d =
       let h = history_years al f in
-      position_on_lem D l k.tag tt d (axis_years h) (daily_read_of l).year (exact_d h l (early_history al f) k.tag o).0 (daily_year o)
+      position_on_lem D l k.tag tt d (axis_years h) (daily_read_of l).date.year (exact_d h l (early_history al f) k.tag o).0 (daily_year o)
 
   daily_asks : Asks (before_rising last (history_years al f) latest) l (record {
     misplaced = is_misplaced last D;
-    malformed = not (daily_read_of l).formed;
-    outside = not (among (axis_years (history_years al f)) (daily_read_of l).year && leb (daily_read_of l).sum most_daily);
-    no_date = no_date_for false (daily_read_of l).year (daily_read_of l).month (daily_read_of l).day;
-    not_later = is_not_later latest (key_for (daily_read_of l).year (daily_read_of l).month (daily_read_of l).day);
+    malformed = not (is_formed D l);
+    outside = is_daily_outside (history_years al f) (daily_read_of l);
+    no_date = no_date_for false (daily_read_of l).date.year (daily_read_of l).date.month (daily_read_of l).date.day;
+    not_later = is_not_later latest (key_for (daily_read_of l).date.year (daily_read_of l).date.month (daily_read_of l).date.day);
     too_soon = false;
     falling = false;
     too_many = false;
@@ -154,13 +147,12 @@ module _ (l : Line) (last al f latest : ℕ) (k : Known D l) where
       let h = history_years al f in
       let b = before_rising last h latest in
       let u = k.tag in
-      let r = daily_read_of l in
       let e = early_history al f in
       record {
         misplaced_is = rw u (misplaced_rank last D refl);
-        malformed_is = malformed_d l u;
-        outside_is = outside_d h l e u ∙ off (among (axis_years h) r.year) r.sum most_daily;
-        date_is = λ o. unfold daily_read_of in no_date_lem D l (daily_read_of l).year u tt (exact_d h l e u o).0;
+        malformed_is = malformed D l u;
+        outside_is = outside_d h l e u;
+        date_is = λ o. unfold daily_read_of in unfold date_read_of in no_date_lem D l (daily_read_of l).date.year u tt (exact_d h l e u o).0;
         later_is = λ o d. rw u (ap (is_not_later latest) (sym (daily_key o d)));
         soon_is = λ _. never_soon b l D u refl;
         falling_is = λ _. never_falling b l D u refl;
@@ -168,35 +160,24 @@ module _ (l : Line) (last al f latest : ℕ) (k : Known D l) where
         count_is = λ _. no_count b l D u refl;
       }
 
-  pub daily_number : (r : DailyRead) (y : Years) (m a i d e : Bool) (v n : ℕ) → r ≡ daily_read_of l → m ≡ is_misplaced last D → y ≡ axis_years (history_years al f) → a ≡ among y r.year
-      → i ≡ (a && leb r.sum most_daily) → d ≡ no_date_for false r.year r.month r.day → v ≡ key_for r.year r.month r.day → e ≡ is_not_later latest v
-      → n ≡ first_refusal (record {
-        misplaced = m;
-        malformed = not r.formed;
-        outside = not i;
-        no_date = d;
-        not_later = e;
-        too_soon = false;
-        falling = false;
-        too_many = false;
-        miscounted = false;
-      })
-      → n ≡ number_by (refusal (before_rising last (history_years al f) latest) l)
-  daily_number r y m a i d e v n er em ey ea ei ed ev ee en =
-      number_is D (before_rising last (history_years al f) latest) l _ k daily_asks n (en ∙ rw (em, ei, ea, ed, ee, ev, ey, er))
+  daily_found : DailyRead → ℕ → DailyChecked
+  daily_found r v = record { year = r.date.year; position = place_or (position_in (axis_years (history_years al f)) r.date.year r.date.month r.date.day); sum = r.sum; key = v }
 
-  pub daily_says : (r : DailyRead) (p v : ℕ) → r ≡ daily_read_of l → p ≡ place_or (position_in (axis_years (history_years al f)) r.year r.month r.day) → v ≡ key_for r.year r.month r.day
-      → refusal (before_rising last (history_years al f) latest) l ≡ none → DailySays (history_years al f) l r.year p r.sum v
-  unfolding holds before_rising before_like
-  daily_says r p v er ep ev q =
+  daily_same : is_outside (history_years al f) l ≡ false → has_no_date l ≡ false
+      → daily_on (history_years al f) l ≡ daily_found (daily_read_of l) (key_for (daily_read_of l).date.year (daily_read_of l).date.month (daily_read_of l).date.day)
+  unfolding daily_on daily_found
+  daily_same o d = let x = exact_d (history_years al f) l (early_history al f) k.tag o in rw (← daily_position o d, ← x.0, ← x.1, ← daily_key o d)
+
+  pub daily_told : unless_reason (refusal (before_rising last (history_years al f) latest) l) (daily_on (history_years al f) l)
+      ≡ and_then (in_order (is_misplaced last D) (where_formed D l (daily_read_of l)))
+      (λ r. and_then (dated_checks (is_daily_outside (history_years al f) r) false r.date latest)
+      (λ v. Ok (record { year = r.date.year; position = place_or (position_in (axis_years (history_years al f)) r.date.year r.date.month r.date.day); sum = r.sum; key = v })))
+  unfolding holds before_rising before_like where_formed daily_found
+  daily_told =
       let h = history_years al f in
       let b = before_rising last h latest in
-      let o : is_outside h l ≡ false = clear b l q outside in
-      let d : has_no_date l ≡ false = clear b l q no_date in
-      let x = exact_d h l (early_history al f) k.tag o in
-      record {
-        year_is = rw er x.0;
-        position_is = ep ∙ rw er (daily_position o d);
-        sum_is = rw er x.1;
-        key_is = ev ∙ rw er (daily_key o d);
-      }
+      let r = daily_read_of l in
+      let v = key_for r.date.year r.date.month r.date.day in
+      told_same (refusal b l) (daily_on h l) (daily_found r v) (λ q. daily_same (clear b l q outside) (clear b l q no_date))
+      ∙ told D b l _ (daily_found r v) k daily_asks
+      ∙ after_two (is_misplaced last D) (is_formed D l) r _ _ (next_dated (is_daily_outside h r) false r.date latest (λ w. Ok (daily_found r w)) _ refl)

@@ -1,49 +1,49 @@
 -- What the result of the checks says about a C or P line.
-use mathlib.Core.Path.{◌≡◌, refl}
-use mathlib.Core.Option.{none}
+use Rattle.std.specs.Prelude.{Result, Ok}
+use mathlib.Core.Path.{◌≡◌, refl, ap, sym, ◌∙◌}
+use mathlib.Core.Option.{Option, none}
 use Rattle.calendar.specs.declared.Years.{Years}
 use Rattle.calendar.specs.Spans.{history_years}
 use Rattle.meaning.specs.Line.{Line, C, P, year_on, winter_on, key_of}
-use Rattle.meaning.specs.Refusals.{refusal}
+use Rattle.meaning.specs.Refusals.{Reason, refusal}
 use Rattle.meaning.specs.Record.{Rec, before_of}
-use Rattle.line_checks.specs.Order.{number_by}
+use Rattle.refusals.specs.declared.Refusal.{Refusal}
+use Rattle.refusals.specs.Refusals.{unless_reason}
 use Rattle.line_checks.specs.Before.{Known, before_points, before_rising}
-use Rattle.line_checks.proofs.Chain.{no_refusal}
+use Rattle.line_checks.proofs.Chain.{told_ok}
 use Rattle.line_checks.proofs.Records.{before_c, before_p}
-use Rattle.line_steps.specs.PointAnswers.{date_checked}
+use Rattle.line_steps.specs.PointAnswers.{date_on}
 use Rattle.line_steps.specs.declared.points_and_profiles.checks.DateChecked.{DateChecked}
 use Rattle.progress.proofs.Rows.{Row}
 use Rattle.progress.proofs.DatedLines.{profiles_row, profiles_history}
 
 -- ---- C
-module _ (s : Rec) (l : Line) (k : Known C l) (j : DateChecked)
-    (e : j ≡ date_checked C (refusal (before_points s.last s.site.meter (history_years s.site.al s.site.filiere) s.lasts.c) l) l) where
-  pub points_number : j.number ≡ number_by (refusal (before_of s) l)
-  unfolding date_checked
-  points_number = rw (e, before_c s l k.tag)
+module _ (s : Rec) (l : Line) (k : Known C l) (r : Result DateChecked Refusal)
+    (e : r ≡ unless_reason (refusal (before_points s.last s.site.meter (history_years s.site.al s.site.filiere) s.lasts.c) l) (date_on C l)) where
+  pub points_seen : r ≡ unless_reason (refusal (before_of s) l) (date_on C l)
+  points_seen = e ∙ ap (λ (o : Option Reason). unless_reason o (date_on C l)) (sym (before_c s l k.tag))
 
-  pub points_none : j.number ≡ 0 → refusal (before_of s) l ≡ none
-  points_none n = no_refusal (refusal (before_of s) l) j.number points_number n
+  module _ (j : DateChecked) (q : r ≡ Ok j) where
+    pub points_none : refusal (before_of s) l ≡ none
+    points_none = (told_ok (refusal (before_of s) l) (date_on C l) j (sym q ∙ points_seen)).0
 
-  pub points_say : j.number ≡ 0 → (j.year ≡ year_on l) × (j.place ≡ winter_on l) × (j.key ≡ key_of C l)
-  unfolding date_checked
-  points_say n = rw (e, ← before_c s l k.tag, points_none n) (refl, refl, refl)
+    pub points_say : (j.year ≡ year_on l) × (j.place ≡ winter_on l) × (j.key ≡ key_of C l)
+    unfolding date_on
+    points_say = rw (told_ok (refusal (before_of s) l) (date_on C l) j (sym q ∙ points_seen)).1 (refl, refl, refl)
 
 -- ---- P
-module _ (s : Rec) (l : Line) (k : Known P l) (j : DateChecked)
-    (e : j ≡ date_checked P (refusal (before_rising s.last (history_years s.site.al s.site.filiere) s.lasts.p) l) l) where
-  pub profiles_number : j.number ≡ number_by (refusal (before_of s) l)
-  unfolding date_checked
-  profiles_number = rw (e, before_p s l k.tag)
+module _ (s : Rec) (l : Line) (k : Known P l) (r : Result DateChecked Refusal)
+    (e : r ≡ unless_reason (refusal (before_rising s.last (history_years s.site.al s.site.filiere) s.lasts.p) l) (date_on P l)) where
+  pub profiles_seen : r ≡ unless_reason (refusal (before_of s) l) (date_on P l)
+  profiles_seen = e ∙ ap (λ (o : Option Reason). unless_reason o (date_on P l)) (sym (before_p s l k.tag))
 
-  pub profiles_none : j.number ≡ 0 → refusal (before_of s) l ≡ none
-  profiles_none n = no_refusal (refusal (before_of s) l) j.number profiles_number n
+  module _ (j : DateChecked) (q : r ≡ Ok j) where
+    pub profiles_none : refusal (before_of s) l ≡ none
+    profiles_none = (told_ok (refusal (before_of s) l) (date_on P l) j (sym q ∙ profiles_seen)).0
 
-  pub profiles_say : j.number ≡ 0 → (j.year ≡ year_on l) × (j.place ≡ winter_on l) × (j.key ≡ key_of P l)
-  unfolding date_checked
-  profiles_say n = rw (e, ← before_p s l k.tag, profiles_none n) (refl, refl, refl)
+    pub profiles_say : (j.year ≡ year_on l) × (j.place ≡ winter_on l) × (j.key ≡ key_of P l)
+    unfolding date_on
+    profiles_say = rw (told_ok (refusal (before_of s) l) (date_on P l) j (sym q ∙ profiles_seen)).1 (refl, refl, refl)
 
-  pub profiles_place : j.number ≡ 0 → (h : Years) → h ≡ history_years s.site.al s.site.filiere → Row h.first j.year 10
-  profiles_place n h q =
-      let f = profiles_none n in
-      rw (q, profiles_history s l f k.tag, (profiles_say n).0) (profiles_row s l f k.tag).0
+    pub profiles_place : (h : Years) → h ≡ history_years s.site.al s.site.filiere → Row h.first j.year 10
+    profiles_place h p = rw (p, profiles_history s l profiles_none k.tag, profiles_say.0) (profiles_row s l profiles_none k.tag).0

@@ -1,4 +1,3 @@
-pub mod Answers
 pub mod Places
 pub mod PointAnswers
 pub mod ReadingAnswers

@@ -11,3 +11,4 @@ pub mod Tabs
 pub mod AllAt
 pub mod Ranges
 pub mod FilledTables
+pub mod Chains

@@ -1,23 +1,23 @@
 -- Annex 1 as document 01 has it: in each year the peak days rise, are winter places, and have a date in the year.
-use mathlib.Core.Path.{◌≡◌, refl, ◌∙◌}
+use mathlib.Core.Path.{◌≡◌, refl}
 use mathlib.Core.Logic.{◌↔◌}
 use mathlib.Core.Bool.{Bool, true, false, ◌&&◌}
 use mathlib.Core.List.{List, [], ◌∷◌}
 use Prim.Native.Nat.{ℕ, ◌+◌, ◌-◌, ◌≤◌, ◌<◌}
 use native.Mathlib.Omega.{arith}
 use lib.Dec.{T, eqb, leb, ltb, eqb→eq, leb→le}
-use lib.ListN.{length, get_or, take, drop, length-take, length-drop}
-use lib.Seq.{get_or-take, get_or-drop}
-use borrow.Author.Tests.{le-leb, lt-leb, lt-ltb}
+use lib.ListN.{length, get_or, take, drop}
+use borrow.Author.Tests.{le-leb, lt-leb}
+use Rattle.std.proofs.lemmas.Option.{slice_get-get_or}
 use Rattle.lists.specs.Lists.{all, count, sum, tab, Each, each_nil}
 use Rattle.lists.proofs.Laws.{each_map}
 use Rattle.lists.proofs.Reflect.{of_all, of_and, of_le, of_lt}
 use Rattle.lists.proofs.Tests.{is_true, and_parts}
 use Rattle.calendar.specs.Dates.{leap, month_lengths, longest, days_in, is_date}
 use Rattle.calendar.specs.Places.{before, month_of, day_of, has_date, date_of_winter, has_winter_date}
-use Rattle.note.specs.Peaks.{annex1, day_counts, has_peaks, peak_count, peak_start, peak_days, part_start}
+use Rattle.note.specs.Peaks.{annex1, day_counts, has_peaks, peak_count, peak_start, peak_days}
 use Rattle.note.specs.Answers.{peak_day}
-use Rattle.note.specs.declared.peaks.PeakDay.TheVariants.{Place, Nothing}
+use Rattle.std.specs.Prelude.{Some, None}
 use Rattle.note.proofs.Table.{at, every_part, part_at, rising, ascends, each_at}
 
 -- ---- the one test of the whole table, year by year
@@ -71,14 +71,6 @@ count_in y h = rw (is_true (has_peaks y) h)
 pub count_out : (y : ℕ) → has_peaks y ≡ false → peak_count y ≡ 0
 unfolding peak_count
 count_out y e = rw e
-
-pub start_in : (y : ℕ) → T (has_peaks y) → part_start y ≡ peak_start y
-unfolding part_start
-start_in y h = rw (is_true (has_peaks y) h)
-
-pub start_out : (y : ℕ) → has_peaks y ≡ false → part_start y ≡ 0
-unfolding part_start
-start_out y e = rw e
 
 no_days : (y : ℕ) → has_peaks y ≡ false → peak_days y ≡ []
 unfolding peak_days
@@ -164,15 +156,6 @@ has_date_lem y k h = each_at (each_dated y) k 0 (rw (days_length y) h)
 pub ascending : (y k l : ℕ) → k < l → l < peak_count y → get_or (peak_days y) k 0 < get_or (peak_days y) l 0
 ascending y k l h g = ascends (peak_days y) (year_rows y (has_peaks_lem y l g)).0 k l h (rw (days_length y) g)
 
--- ---- where a year's part stands in the table
-pub part_within : (y : ℕ) → T (has_peaks y) → peak_start y + peak_count y ≤ 282
-unfolding peak_days
-part_within y h = omega (arith, fewest_days y h, simp (length-take, length-drop, table_length) at (days_length y))
-
-pub day_at_lem : (y k : ℕ) → k < peak_count y → get_or (peak_days y) k 0 ≡ get_or annex1 (peak_start y + k) 0
-unfolding peak_days
-day_at_lem y k h = get_or-take (peak_count y) (drop (peak_start y) annex1) k 0 h ∙ get_or-drop (peak_start y) annex1 k 0
-
 -- ---- the starts as the code has them: each is the sum of the counts before it, and each count the step to the next
 unfoldable pub starts : List ℕ
 starts = 0 ∷ 20 ∷ 40 ∷ 60 ∷ 80 ∷ 100 ∷ 120 ∷ 140 ∷ 160 ∷ 180 ∷ 200 ∷ 222 ∷ 242 ∷ 253 ∷ 266 ∷ 282 ∷ []
@@ -192,12 +175,27 @@ unfolding is_step starts day_counts
 step_at i h = eqb→eq (get_or starts i 0 + get_or day_counts i 0) (get_or starts (i + 1) 0) (at is_step day_counts tt i 0 h)
 
 -- ---- the answer for a peak day that the year has
-day_is : (y k : ℕ) → k < peak_count y → peak_day y k ≡ Place (get_or (peak_days y) k 0)
+pub day_is : (y k : ℕ) → k < peak_count y → peak_day y k ≡ Some (get_or (peak_days y) k 0)
 unfolding peak_day
-day_is y k h = rw (lt-ltb k (peak_count y) h)
+day_is y k h = slice_get-get_or (peak_days y) k 0 (rw (days_length y) h)
 
-pub place_is : (y k w : ℕ) → k < peak_count y → peak_day y k ≡ Place w → w ≡ get_or (peak_days y) k 0
+pub place_is : (y k w : ℕ) → k < peak_count y → peak_day y k ≡ Some w → w ≡ get_or (peak_days y) k 0
 place_is y k w h e = cc (day_is y k h)
 
-pub not_nothing : (y k : ℕ) → k < peak_count y → peak_day y k ≡ Nothing → ⊥
+pub not_nothing : (y k : ℕ) → k < peak_count y → peak_day y k ≡ None → ⊥
 not_nothing y k h e = let z : ◌≡◌ {A = ℕ} 0 1 = cc (day_is y k h) in absurd (omega arith)
+
+-- ---- a year's part of the table, from its start to the next
+pub part_is : (y : ℕ) → 2007 ≤ y → y ≤ 2021 → take (get_or starts (y - 2007 + 1) 0 - get_or starts (y - 2007) 0) (drop (get_or starts (y - 2007) 0) annex1) ≡ peak_days y
+unfolding peak_days peak_start
+part_is y h g =
+    let e : get_or starts (y - 2007 + 1) 0 - get_or starts (y - 2007) 0 ≡ peak_count y =
+    omega (arith, count_in y (peak_year y h g), step_at (y - 2007) (omega arith)) in
+    rw (e, start_at (y - 2007) (omega arith))
+
+pub no_part : (y : ℕ) → (2007 ≤ y → y ≤ 2021 → ⊥) → peak_days y ≡ []
+no_part y n = go (has_peaks y) refl
+  where
+    go : (b : Bool) → has_peaks y ≡ b → peak_days y ≡ []
+    go true e = let b = peak_years y (rw e tt) in absurd (n b.0 b.1)
+    go false e = no_days y e

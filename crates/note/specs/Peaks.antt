@@ -39,7 +39,3 @@ peak_start y = sum (take (y - 2007) day_counts)
 -- the year's peak days as winter places, in date order: its part of the table
 unfoldable pub peak_days : ℕ → List ℕ
 peak_days y = take (peak_count y) (drop (peak_start y) annex1)
-
--- where the year's part begins: 0 where the year has none
-unfoldable pub part_start : ℕ → ℕ
-part_start y = cond (has_peaks y) (peak_start y) 0

@@ -1,4 +1,3 @@
 pub mod Opened
-pub mod FrontFills
 pub mod Dispatch
 pub mod Calls

@@ -1,33 +1,44 @@
 -- What a line gives: answer, record, and the reading that is left to store (document 01, Calls; Stops that come from the input).
-use Rattle.std.specs.Prelude.{cond, ℕ, ◌+◌, eqb}
+use Rattle.std.specs.Prelude.{ℕ, ◌+◌, List, set, Option, Some, None, Result, Ok, Err}
 use Rattle.meaning.specs.Blocks.{Blocks}
 use Rattle.meaning.specs.Calls.{Out, out}
-use Rattle.readings.specs.Readings.{fresh}
+use Rattle.refusals.specs.declared.Refusal.{Refusal}
+use Rattle.refusals.specs.Refusals.{refusal_number}
+use Rattle.readings.specs.declared.Reading.{Reading}
 use Rattle.progress.specs.declared.State.{State}
 use Rattle.progress.specs.declared.State.TheVariants as states
 use Rattle.progress.specs.declared.State.TheVariants.{Open}
 use Rattle.progress.specs.declared.Progress.{Progress}
 use Rattle.progress.specs.declared.Step.{Step}
 use Rattle.progress.specs.ProgressViews.{rec_of}
-use Rattle.answers.specs.declared.Answer.TheVariants.{Refused}
-use Rattle.answers.specs.Views.{answer_view, answer_of}
+use Rattle.answers.specs.declared.Answer.TheVariants.{Accepted, Refused}
+use Rattle.answers.specs.Views.{answer_view}
 use Rattle.open_and_line.specs.declared.line_call.outcome.LineOutcome.{LineOutcome}
+use Rattle.open_and_line.specs.declared.line_call.outcome.PlacedReading.{PlacedReading}
 
 -- with the lent lists as the line leaves them
 abbrev pub line_outcome_view : LineOutcome → Blocks → Out
 line_outcome_view r w = out (answer_view r.answer) (rec_of r.state r.count r.progress) w
 
--- 1 and 13
-abbrev pub unchanged_of : State → ℕ → Progress → ℕ → ℕ → LineOutcome
-unchanged_of st n p k past = record { answer = Refused k n; state = st; count = n; progress = p; reading_place = past; reading = fresh }
+-- the list with the reading of a line stored, if it has one
+abbrev pub with_reading : List Reading → Option PlacedReading → List Reading
+with_reading rs None = rs
+with_reading rs (Some r) = set rs r.place r.reading
 
--- a step on an open record: its reading goes to the next place of the list
-abbrev pub line_outcome_of : ℕ → Step → ℕ → ℕ → LineOutcome
-line_outcome_of taken s n past = record {
-  answer = answer_of s.number (taken + 1);
-  state = cond (eqb s.number 0) Open states.Refused;
-  count = taken + 1;
-  progress = s.progress;
-  reading_place = cond s.reads n past;
-  reading = record { position = s.position; count = s.index; kind = s.kind };
-}
+-- a refusal, by its number, the state and the count after it
+abbrev pub refused_of : State → ℕ → Progress → ℕ → LineOutcome
+refused_of st n p k = record { reading = None; answer = Refused k n; state = st; count = n; progress = p }
+
+-- a reading goes to place n
+abbrev pub placed_at : ℕ → Option Reading → Option PlacedReading
+placed_at n None = None
+placed_at n (Some r) = Some (record { place = n; reading = r })
+
+-- an accepted line, the count-th
+abbrev pub accepted_of : ℕ → Step → ℕ → LineOutcome
+accepted_of count s n = record { reading = placed_at n s.reading; answer = Accepted; state = Open; count = count; progress = s.progress }
+
+-- a line on an open record: refused or taken, and counted
+abbrev pub line_outcome_of : ℕ → Progress → Result Step Refusal → ℕ → LineOutcome
+line_outcome_of taken p (Err y) n = refused_of states.Refused (taken + 1) p (refusal_number y)
+line_outcome_of taken p (Ok s) n = accepted_of (taken + 1) s n

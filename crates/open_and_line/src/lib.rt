@@ -5,5 +5,5 @@
 mod opening; // opening: every block fresh where each has its size, else as it was
 mod line_call; // a line: 1 and 13, then 2 to 12 or what the line changes
 
-pub use line_call::{LineOutcome, apply_line};
+pub use line_call::{LineOutcome, PlacedReading, apply_line};
 pub use opening::open_blocks;

@@ -4,31 +4,50 @@ ghost use Rattle.pieces.specs.Run.{run_of, fed};
 ghost use Rattle.readings.specs.Readings.{readings_view};
 ghost use Rattle.readings.specs.Columns.{lent_blocks};
 ghost use Rattle.record_calls.specs.Views.{call_view};
-ghost use Rattle.piece_lines.specs.Cursors.{cursor_view};
 
-use crate::LineCursor;
-use crate::lines::has_line;
-use crate::next::cursor_at;
-use crate::next_applied::apply_next;
+use pieces::{is_final, next_line};
 use readings::Reading;
 use record_calls::CallResult;
 
-// Applies the whole lines of a piece after a call, up to a final answer, and returns the cursor after them.
-pub(crate) fn apply_lines(
-    call: CallResult,
-    piece: &[u8],
+// What the last call returned, with the readings, and the bytes of the piece that are left pending: none once there is a final answer.
+#[derive(Clone, Copy)]
+pub struct AppliedLines<'a> {
+    pub call: CallResult,
+    pub readings: [Reading; 600],
+    pub rest: &'a [u8],
+}
+
+// Applies the whole lines of a piece after a call, up to a final answer.
+pub fn apply_lines_own<'a>(
+    mut call: CallResult,
+    piece: &'a [u8],
     near: &mut [u32],
     far: &mut [u32],
     slots: &mut [u16],
     daily: &mut [u32],
-    readings: &mut [Reading],
+    mut readings: [Reading; 600],
     curve: &[u64],
-) -> LineCursor
-    ensures { cursor_view result piece.now (lent_blocks near.new far.new slots.new daily.new (readings_view readings.new) curve.now) ≡ fed (run_of (call_view call (lent_blocks near.old far.old slots.old daily.old (readings_view readings.old) curve.now)) []) piece.now }
+) -> AppliedLines<'a>
+    ensures { run_of (call_view result.call (lent_blocks near.new far.new slots.new daily.new (readings_view result.readings) curve.now)) result.rest.now ≡ fed (run_of (call_view call (lent_blocks near.old far.old slots.old daily.old (readings_view readings) curve.now)) []) piece.now }
 {
-    let mut cursor = cursor_at(call, piece, 0);
-    while has_line(cursor) {
-        cursor = apply_next(cursor, piece, near, far, slots, daily, readings, curve);
+    let mut at = 0;
+    // a `while`, since how many lines the piece has shows only as they are found
+    'lines: while !is_final(call.answer) {
+        let Some(next) = next_line(piece, at) else {
+            return AppliedLines {
+                call,
+                readings,
+                rest: &piece[at..],
+            };
+        };
+        call = call
+            .record
+            .line(next.line, near, far, slots, daily, &mut readings, curve);
+        at = next.past;
     }
-    cursor
+    AppliedLines {
+        call,
+        readings,
+        rest: &[],
+    }
 }

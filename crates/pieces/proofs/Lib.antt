@@ -7,4 +7,3 @@ pub mod Answers
 pub mod Levels
 pub mod Printed
 pub mod Joins
-pub mod Laws

@@ -7,9 +7,13 @@ use Prim.Native.Nat.{ℕ, zero, suc, ◌+◌, ◌-◌, ◌≤◌, ◌<◌, min}
 use native.Mathlib.Numerals.{add-one}
 use native.Mathlib.Omega.{arith}
 use lib.Dec.{eqb, ltb}
-use lib.ListN.{length, take, drop, get_or, length-append, length-take, drop_of_length-le}
-use lib.Seq.{drop-cons, take-suc, get_or-take}
-use borrow.Author.Tests.{eq-eqb, ne_eqb, eqb-true, eqb-false, lt-ltb, le-ltb, ltb-true, ltb-false}
+use lib.ListN.{length, take, get_or, length-append, length-take}
+use lib.Seq.{take-suc, get_or-take}
+use borrow.Author.Tests.{ne_eqb, eqb-true, eqb-false, lt-ltb, le-ltb, ltb-true, ltb-false}
+use Rattle.std.specs.Prelude.{Some, None}
+use Rattle.std.specs.List.{position, position_or_len}
+use Rattle.std.specs.Option.{unwrap_or}
+use Rattle.std.proofs.lemmas.List.Recursion.{is_position_or_len}
 use Rattle.lists.specs.Lists.{each_nil, each_cons}
 use Rattle.meaning.specs.Line.{Line}
 use Rattle.meaning.specs.Calls.{Out}
@@ -18,18 +22,14 @@ use Rattle.pieces.specs.Parts.{end_at, stepped}
 use Rattle.pieces.proofs.Lines.{Endless}
 use Rattle.pieces.proofs.Feeding.{fed_append}
 
--- ---- a loop to the end of the line
-pub end_here : (l : List ℕ) (i : ℕ) → i < length l → get_or l i 0 ≡ 10 → end_at (drop i l) ≡ 0
+-- ---- the place of the first byte 10, or the length
+end_step : (b : ℕ) (l : List ℕ) → end_at (b ∷ l) ≡ cond (eqb b 10) 0 (1 + end_at l)
 unfolding end_at
-end_here l i h e = rw (drop-cons l i 0 h) (simp (eq-eqb _ _ e))
+end_step b l = let q : suc (end_at l) ≡ 1 + end_at l = omega arith in rw q
 
-pub end_on : (l : List ℕ) (i : ℕ) → i < length l → (get_or l i 0 ≡ 10 → ⊥) → end_at (drop i l) ≡ end_at (drop (i + 1) l) + 1
+end_first : (l : List ℕ) → end_at l ≡ position_or_len (λ b. eqb b 10) l
 unfolding end_at
-end_on l i h e = rw (drop-cons l i 0 h) (simp (ne_eqb _ _ e, add-one))
-
-pub end_past : (l : List ℕ) (i : ℕ) → length l ≤ i → end_at (drop i l) ≡ 0
-unfolding end_at
-end_past l i h = simp (drop_of_length-le l h)
+end_first l = is_position_or_len end_at (λ b. eqb b 10) refl end_step l
 
 pub end_within : (l : List ℕ) → end_at l ≤ length l
 unfolding end_at
@@ -39,6 +39,14 @@ end_within (b ∷ l) = go (eqb b 10) (end_within l)
     go : (c : Bool) → end_at l ≤ length l → cond c 0 (suc (end_at l)) ≤ suc (length l)
     go true e = omega arith
     go false e = omega arith
+
+pub end_found : (l : List ℕ) → unwrap_or (position (λ b. eqb b 10) l) (length l) ≡ end_at l
+end_found l = rw (end_first l) (go (ltb (position_or_len (λ b. eqb b 10) l) (length l)) refl)
+  where
+    go : (c : Bool) → ltb (position_or_len (λ b. eqb b 10) l) (length l) ≡ c
+        → unwrap_or (cond c (Some (position_or_len (λ b. eqb b 10) l)) None) (length l) ≡ position_or_len (λ b. eqb b 10) l
+    go true e = refl
+    go false e = omega (arith, ltb-false (position_or_len (λ b. eqb b 10) l) (length l) e, end_within l, end_first l)
 
 -- ---- no byte before the end of the line ends it
 pub end_endless : (l : List ℕ) → Endless (take (end_at l) l)

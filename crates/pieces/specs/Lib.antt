@@ -2,4 +2,4 @@ pub mod Run
 pub mod Parts
 pub mod Promise
 pub mod Joined
-pub mod LineSpans
+pub mod NextLines

@@ -8,17 +8,5 @@ use answers::Answer;
 pub fn is_final(answer: Answer) -> bool
     ensures { result ≡ is_final (answer_view answer) }
 {
-    match answer {
-        Answer::Accepted => false,
-        Answer::Refused {
-            number: _,
-            count: _,
-        } => true,
-        Answer::Reported {
-            al: _,
-            filiere: _,
-            level: _,
-            points: _,
-        } => true,
-    }
+    !matches!(answer, Answer::Accepted)
 }

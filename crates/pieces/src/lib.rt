@@ -3,11 +3,10 @@
 #![tactic(auto)]
 
 mod next_lines; // the next line of a piece
-mod line_ends; // where a line ends, and when it is whole
+mod line_ends; // where a line ends
 mod joining; // the pending line: its bytes, which are held from piece to piece
 mod final_answers; // whether an answer is final, and so ends a run
 
 pub use final_answers::is_final;
-pub use joining::{Joined, appended, join};
-pub use line_ends::{has_pending, smaller};
-pub use next_lines::{LineSpan, line_in, next_line};
+pub use joining::{Joined, Pending};
+pub use next_lines::{NextLine, next_line};

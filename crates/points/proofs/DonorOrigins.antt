@@ -3,11 +3,11 @@ use mathlib.Core.Path.{◌≡◌}
 use mathlib.Core.Bool.{Bool, true, false, cond}
 use mathlib.Core.Option.{Option, none}
 use Rattle.meaning.specs.Points.{Origin, own_of, rounded_point, source_exceeds}
-use Rattle.points.specs.declared.own.PlacePoint.{PlacePoint}
-use Rattle.points.specs.PlacePoints.{place_point_where, place_point_of}
+use Rattle.std.specs.Prelude.{Ok, None}
+use Rattle.points.specs.PlacePoints.{PlacePoint, place_point_where, place_point_of}
 use Rattle.points.specs.OwnFits.{PlacePointIs}
 
-pub not_given : (v : Bool) (o : Option Origin) → v ≡ false → PlacePointIs (own_of (cond v o none)) PlacePoint.Missing
+pub not_given : (v : Bool) (o : Option Origin) → v ≡ false → PlacePointIs (own_of (cond v o none)) (Ok None)
 unfolding place_point_of place_point_where own_of source_exceeds rounded_point
 not_given v o h = record { is = rw h; fits = tt }
 

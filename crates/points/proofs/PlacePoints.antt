@@ -2,6 +2,7 @@
 use mathlib.Core.Path.{◌≡◌, refl, ◌∙◌}
 use mathlib.Core.Bool.{Bool, true, false}
 use mathlib.Core.Option.{some}
+use Rattle.std.specs.Prelude.{Ok, Some, None}
 use Prim.Native.Nat.{ℕ, ◌+◌, ◌*◌, ◌≤◌}
 use native.Mathlib.Nat.{div-zero}
 use native.Mathlib.Omega.{arith}
@@ -13,8 +14,7 @@ use Rattle.rounding.specs.Answers.{in_mw, point_of, point_where}
 use Rattle.rounding.proofs.Laws.{half_up_only}
 use Rattle.meaning.specs.Points.{own, by_profile, from_default, own_of, read_by, rounded_point, source_exceeds, origin_exceeds, rounded_origin, fraction_of}
 use Rattle.meaning.specs.Blocks.{missing_point, point_of_code}
-use Rattle.points.specs.declared.own.PlacePoint.{PlacePoint}
-use Rattle.points.specs.PlacePoints.{place_point_where, place_point_of, place_point_by}
+use Rattle.points.specs.PlacePoints.{PlacePoint, place_point_where, place_point_of, place_point_by}
 use Rattle.points.specs.OwnFits.{is_point, PlacePointFits, PlacePointIs}
 
 -- ---- a rounded number of mW
@@ -53,7 +53,7 @@ no_total : (e p : ℕ) → rounded (profiled e p 0) ≡ 0
 unfolding rounded profiled half_up
 no_total e p = div-zero (2 * (2000 * e * p) + 0)
 
-pub empty_filled : (e p t : ℕ) → t ≡ 0 → PlacePointIs (own (by_profile e p t)) (PlacePoint.Is (in_mw 0))
+pub empty_filled : (e p t : ℕ) → t ≡ 0 → PlacePointIs (own (by_profile e p t)) (Ok (Some (in_mw 0)))
 unfolding place_point_of place_point_where source_exceeds origin_exceeds rounded_point rounded_origin fraction_of exceeds
 empty_filled e p t h = record { is = rw (h, no_total e p); fits = omega arith }
 
@@ -66,11 +66,11 @@ pub point_most : (v : ℕ) → T (is_point v) → (v ≡ missing_point → ⊥) 
 unfolding is_point
 point_most v t h = leb→le v 100000000 (rw (ne_eqb v missing_point h) at t)
 
-pub missing_filled : (v : ℕ) → v ≡ missing_point → PlacePointIs (own_of (read_by (point_of_code v))) PlacePoint.Missing
+pub missing_filled : (v : ℕ) → v ≡ missing_point → PlacePointIs (own_of (read_by (point_of_code v))) (Ok None)
 unfolding place_point_of place_point_where own_of read_by point_of_code source_exceeds rounded_point
 missing_filled v h = record { is = rw (eq-eqb v missing_point h); fits = tt }
 
-pub read_filled : (v : ℕ) → T (is_point v) → (v ≡ missing_point → ⊥) → PlacePointIs (own_of (read_by (point_of_code v))) (PlacePoint.Is (in_mw (1000 * v)))
+pub read_filled : (v : ℕ) → T (is_point v) → (v ≡ missing_point → ⊥) → PlacePointIs (own_of (read_by (point_of_code v))) (Ok (Some (in_mw (1000 * v))))
 unfolding place_point_of place_point_where own_of read_by point_of_code source_exceeds origin_exceeds rounded_point rounded_origin fraction_of
 read_filled v t h =
     record {

@@ -5,4 +5,5 @@ pub mod Sums
 pub mod DonorOrigins
 pub mod DonorFits
 pub mod Sources
+pub mod Days
 pub mod Fits

@@ -1,12 +1,11 @@
 -- What is known of a site and its points once 1 and 14 to 17 are checked, and bounds on the point of a place.
-use Rattle.std.specs.Prelude.{◌≡◌, Bool, ◌||◌, List, ℕ, ◌≤◌, ◌<◌, T, eqb, leb, get_or}
+use Rattle.std.specs.Prelude.{◌≡◌, Bool, ◌||◌, List, ℕ, ◌≤◌, ◌<◌, Some, None, Ok, Err, T, eqb, leb, get_or}
 use Rattle.meaning.specs.Points.{Source}
 use Rattle.meaning.specs.Blocks.{missing_point}
 use Rattle.rounding.specs.Points.{most_point}
 use Rattle.blocks.specs.Rows.{row_of}
 use Rattle.points.specs.declared.own.SiteFactors.{SiteFactors}
-use Rattle.points.specs.declared.own.PlacePoint.{PlacePoint}
-use Rattle.points.specs.PlacePoints.{place_point_of}
+use Rattle.points.specs.PlacePoints.{PlacePoint, place_point_of}
 
 -- a point's code: missing, or at most 100,000,000 W
 unfoldable pub is_point : ℕ → Bool
@@ -26,9 +25,9 @@ pub record SiteFactorsFit (b : SiteFactors) : Type 0 where
 
 -- the point of a place is at most the limit of 18
 abbrev pub PlacePointFits : PlacePoint → Type 0
-PlacePointFits PlacePoint.Missing = Unit {0}
-PlacePointFits PlacePoint.Exceeds = Unit {0}
-PlacePointFits (PlacePoint.Is p) = p.0 ≤ most_point
+PlacePointFits (Err e) = Unit {0}
+PlacePointFits (Ok None) = Unit {0}
+PlacePointFits (Ok (Some p)) = p.0 ≤ most_point
 
 pub record PlacePointIs (s : Source) (r : PlacePoint) : Type 0 where
   pub is : r ≡ place_point_of s

@@ -3,21 +3,24 @@
 // Throughout, k is a year's number from the oldest history year, w a winter place and h a half-hour of the day.
 #![tactic(auto)]
 
+mod days; // what the points of a winter day are computed from
 mod own; // a year's own points: as read, or profiled from its energy; and the default power
 mod donors; // the sums over donors, and the point rebuilt from them
-mod curve_donors; // the donors of case 2: years with a valid curve
-mod index_donors; // the donors of cases 3 and 5: years with a valid index
 
 ghost use Rattle.std.specs.Prelude.{◌<◌};
-ghost use Rattle.points.specs.OwnFits.{SiteFactorsFit, PlacePointIs};
+ghost use Rattle.points.specs.OwnFits.{PlacePointIs};
 ghost use Rattle.history.specs.Cases.{case_view};
-ghost use Rattle.points.specs.Sources.{day, source_in};
-ghost use Rattle.points.specs.Fits.{DayFits};
+ghost use Rattle.points.specs.Sources.{source_in};
+ghost use Rattle.points.specs.Days.{day_view};
 
+use crate::donors::{curve_donor, index_donor, rebuilt_point};
+use crate::own::{by_default, measured, profiled};
+pub use days::WinterDay;
 use history::Case;
-pub use own::{PlacePoint, SiteFactors};
+pub use own::SiteFactors;
+use rounding::{Exceeds, Power};
 
-// A history year: its number from the oldest, its case, and its rate in thousandths, 0 for none.
+// A history year: its number from the oldest, its case, and its rate in thousandths, 0 for none as the record holds it.
 #[derive(Clone, Copy)]
 pub struct TargetYear {
     pub k: usize,
@@ -25,54 +28,22 @@ pub struct TargetYear {
     pub rate: u64,
 }
 
-pub fn point_of<'a>(
-    site: SiteFactors,
-    target: TargetYear,
-    near: &'a [u32],
-    far: &'a [u32],
-    slots: &[u16],
-    energies: &[u64; 10],
-    totals: &[u64; 10],
-    is_donor: &[bool; 10],
-    curves: &[bool; 10],
-    cas: &[u64; 10],
-    w: usize,
-    h: usize,
-) -> PlacePoint
-    requires site_factors_fit { SiteFactorsFit site × DayFits site (day near.now far.now slots.now energies.now totals.now is_donor.now curves.now cas.now) }
-    requires k_lt_count { (target.k < site.count) × (w < 152) × (h < 20) }
-    ensures { PlacePointIs (source_in site (day near.now far.now slots.now energies.now totals.now is_donor.now curves.now cas.now) (case_view target.case) target.k w h) result }
+// A missing point is `None`; refusal 18 is the error.
+pub fn point_of(day: &WinterDay<'_>, target: TargetYear, h: usize) -> Result<Option<Power>, Exceeds>
+    requires { (target.k < day.now.site.now.count) × (h < 20) }
+    ensures { PlacePointIs (source_in day.now.site.now (day_view day.now) (case_view target.case) target.k day.now.w h) result }
 {
     let k = target.k;
-    let case = target.case;
-    match case {
-        Case::M => crate::own::measured(crate::own::code(
-            near,
-            far,
-            site.al,
-            site.first + (k as u64),
-            w,
-            h,
-        )),
-        Case::T1 | Case::P => crate::own::profiled(
-            energies[k],
-            crate::own::profile(slots, k, w, h),
-            totals[k],
+    let n = day.site.count as usize;
+    match target.case {
+        Case::M => Ok(measured(day.code(day.site.first + k as u64, h))),
+        Case::T1 | Case::P => profiled(
+            day.years.energies[k],
+            day.profile(k, h),
+            day.years.totals[k],
         ),
-        Case::T2 => {
-            crate::donors::rebuilt(
-                cas[k],
-                crate::curve_donors::from_curves(site, near, far, curves, cas, w, h),
-            )
-        }
-        Case::T3 | Case::I5 => crate::donors::rebuilt(
-            cas[k],
-            crate::index_donors::from_indexes(site, slots, energies, totals, is_donor, cas, w, h),
-        ),
-        Case::T4 | Case::I6 => crate::own::by_default(
-            site,
-            crate::own::profile(slots, k, w, h),
-            cas[k],
-        ),
+        Case::T2 => rebuilt_point(k, n, day.cas, |j| Ok(curve_donor(day, j, h))),
+        Case::T3 | Case::I5 => rebuilt_point(k, n, day.cas, |j| index_donor(day, j, h)),
+        Case::T4 | Case::I6 => by_default(day.site, day.profile(k, h), day.cas[k]),
     }
 }

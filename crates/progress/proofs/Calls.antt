@@ -20,19 +20,6 @@ use Rattle.line_checks.proofs.Chain.{number_above}
 use Rattle.progress.specs.Steps.{Stepped, line_blocks, stores_after, step_by, step_of, answer_of, out_after}
 use Rattle.progress.proofs.DatedLines.{reading_place}
 
--- a reading's position is on the axis; a line without a reading has position 0
-pub on_axis : (s : Rec) (l : Line) (w : Blocks) (o : Stepped) → o ≡ step_of s l w → o.position < 4392
-unfolding step_of step_by
-on_axis s l w o e = rw e (go (refusal (before_of s) l) refl)
-  where
-    place : refusal (before_of s) l ≡ none → (b : Bool) → is X (tag_of l) ≡ b → cond b (position_on (axis_of_rec s) l) 0 < 4392
-    place q true t = (reading_place s l q (sym (is_tag X (tag_of l) (rw t tt)))).0
-    place q false t = omega arith
-
-    go : (r : Option Reason) → refusal (before_of s) l ≡ r → (step_by r s l w).position < 4392
-    go none q = place q (is X (tag_of l)) refl
-    go (some y) q = omega arith
-
 -- only an X line gives a reading, and only an X line stores one
 stored_same : (b : Bool) (rs : List Reading) (k p x : ℕ) (kind : Kind)
     → cond b (set rs k (reading (cond b p 0) (cond b x 0) (cond b kind estimated))) rs ≡ cond b (set rs k (reading p x kind)) rs

@@ -5,7 +5,6 @@ pub mod Codes
 pub mod DatedLines
 pub mod Calls
 pub mod Spans
-pub mod ZeroFits
-pub mod SiteNumbers
+pub mod YearPlaces
 pub mod SiteTaken
 pub mod StateLaws

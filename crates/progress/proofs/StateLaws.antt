@@ -20,11 +20,6 @@ open_state_lem NeverOpened e = absurd (subst T (sym e) tt)
 open_state_lem Refused e = absurd (subst T (sym e) tt)
 open_state_lem Closed e = absurd (subst T (sym e) tt)
 
--- a refusal marks the record refused
-pub refused_unless : (b : Bool) → state_view (cond b Open Refused) ≡ cond b open_state refused_state
-refused_unless true = refl
-refused_unless false = refl
-
 pub refused_where : (b : Bool) (st : State) → state_view (cond b Refused st) ≡ cond b refused_state (state_view st)
 refused_where true st = refl
 refused_where false st = refl

@@ -1,5 +1,8 @@
 -- The resulting step, in the order of checking; and a tag that writes some blocks leaves the others.
-use mathlib.Core.Path.{◌≡◌, refl}
+use Rattle.std.specs.Prelude as std
+use Rattle.std.specs.Prelude.{Result, Ok, Err}
+use mathlib.Core.Path.{◌≡◌, refl, sym, ◌∙◌}
+use mathlib.Core.List.{List}
 use mathlib.Core.Bool.{true, false, cond}
 use mathlib.Core.Option.{Option, some, none}
 use Prim.Native.Nat.{ℕ}
@@ -12,29 +15,33 @@ use Rattle.meaning.specs.Refusals.{Reason, number_of, is_illegible, is_unknown, 
 use Rattle.meaning.specs.Blocks.{Blocks}
 use Rattle.meaning.specs.Record.{Rec, in_state, axis_of_rec, before_of}
 use Rattle.meaning.specs.Calls.{position_on, rec_after, blocks_after}
-use Rattle.line_checks.specs.Order.{number_by}
+use Rattle.readings.specs.declared.Reading.{Reading}
+use Rattle.refusals.specs.declared.Refusal.{Refusal}
+use Rattle.refusals.specs.declared.Refusal.TheVariants.{Illegible, Unknown}
+use Rattle.refusals.specs.Refusals.{refusal_number, of_reason, unless_reason}
+use Rattle.refusals.proofs.Laws.{line_numbers}
+use Rattle.line_checks.proofs.Chain.{told_err}
 use Rattle.progress.specs.declared.Progress.{Progress}
 use Rattle.progress.specs.declared.Step.{Step}
-use Rattle.progress.specs.ProgressViews.{open_rec, step_view, no_reading}
+use Rattle.progress.specs.ProgressViews.{open_rec, taken_view, step_view}
 use Rattle.progress.specs.Steps.{Stepped, with_no_reading, stores_after, step_by, step_of, no_block, point_blocks, slot_block, daily_block}
 
 module _ (s : Rec) (l : Line) (w : Blocks) where
-  pub step_2 : is_illegible l ≡ true → with_no_reading 2 s w ≡ step_of s l w
-  unfolding step_of refusal first_of order holds step_by number_of
+  pub step_2 : is_illegible l ≡ true → with_no_reading (refusal_number Illegible) s w ≡ step_of s l w
+  unfolding refusal_number step_of refusal first_of order holds step_by number_of
   step_2 e = rw e
 
-  pub step_3 : is_illegible l ≡ false → is_unknown l ≡ true → with_no_reading 3 s w ≡ step_of s l w
-  unfolding step_of refusal first_of order holds step_by number_of
+  pub step_3 : is_illegible l ≡ false → is_unknown l ≡ true → with_no_reading (refusal_number Unknown) s w ≡ step_of s l w
+  unfolding refusal_number step_of refusal first_of order holds step_by number_of
   step_3 e h = rw (e, h)
 
-  -- by the refusal's number, 0 for none
-  pub step_refused : (n : ℕ) → n ≡ number_by (refusal (before_of s) l) → (n ≡ 0 → ⊥) → with_no_reading n s w ≡ step_of s l w
+  -- refused by the checks of its tag
+  pub step_refused : {A : Type 0} (a : A) (y : Refusal) → Err y ≡ unless_reason (refusal (before_of s) l) a → with_no_reading (refusal_number y) s w ≡ step_of s l w
   unfolding step_of step_by
-  step_refused n e h = go (refusal (before_of s) l) e
+  step_refused a y e = go (told_err (refusal (before_of s) l) a y e)
     where
-      go : (o : Option Reason) → n ≡ number_by o → with_no_reading n s w ≡ step_by o s l w
-      go none q = absurd (h q)
-      go (some y) q = rw q
+      go : (z : Reason) × (refusal (before_of s) l ≡ some z) × (y ≡ of_reason z) → with_no_reading (refusal_number y) s w ≡ step_by (refusal (before_of s) l) s l w
+      go t = rw (t.1, t.2, line_numbers t.0)
 
   pub step_took : (t : Tag) → tag_of l ≡ t → refusal (before_of s) l ≡ none
       → record {
@@ -50,14 +57,19 @@ module _ (s : Rec) (l : Line) (w : Blocks) where
   unfolding step_of step_by
   step_took t u e = rw (e, u)
 
--- a step without a reading in the code
-pub answered : (n : ℕ) (w : Blocks) (r : Step) (k : ℕ) (p : Progress) → r ≡ no_reading k p → step_view n r w ≡ with_no_reading k (open_rec n p) w
-answered n w r k p e = rw e
-
 -- ---- frames: a step is the same with any other blocks, and these are left as they are
 -- a step with its blocks joined to others
 abbrev pub within : (Blocks → Blocks) → Stepped → Stepped
 within join o = record { number = o.number; after = o.after; reads = o.reads; position = o.position; index = o.index; kind = o.kind; blocks = join o.blocks }
+
+-- the same of a step in the code
+within_taken : (join : Blocks → Blocks) (s : Rec) (r : std.Option Reading) (v : Blocks) → within join (taken_view s r v) ≡ taken_view s r (join v)
+within_taken join s std.None v = refl
+within_taken join s (std.Some r) v = refl
+
+pub within_view : (join : Blocks → Blocks) (n : ℕ) (p : Progress) (r : Result Step Refusal) (v : Blocks) → within join (step_view n p r v) ≡ step_view n p r (join v)
+within_view join n p (Err y) v = refl
+within_view join n p (Ok r) v = within_taken join (open_rec n r.progress) r.reading v
 
 pub stay : (s : Rec) (l : Line) (t : Tag) (v w : Blocks) (join : Blocks → Blocks) (o : Stepped) → tag_of l ≡ t
     → join (stores_after t l s v) ≡ stores_after t l s w → join v ≡ w → o ≡ step_of s l v → within join o ≡ step_of s l w
@@ -68,39 +80,43 @@ stay s l t v w join o u a b e = rw e (go (refusal (before_of s) l))
     go none = rw (u, a)
     go (some y) = rw b
 
-module _ (s : Rec) (l : Line) (w : Blocks) (o : Stepped) where
-  -- by tag
-  pub stay_s : tag_of l ≡ S → o ≡ step_of s l no_block → within (λ v. w) o ≡ step_of s l w
-  unfolding stores_after blocks_after
-  stay_s u = stay s l S no_block w (λ v. w) o u refl refl
+-- by tag, n lines before it
+module _ (n : ℕ) (p : Progress) (l : Line) (r : Result Step Refusal) (w : Blocks) where
+  stay_view : (t : Tag) (v v' : Blocks) (join : Blocks → Blocks) → tag_of l ≡ t → join (stores_after t l (open_rec n p) v) ≡ stores_after t l (open_rec n p) w → join v ≡ w
+      → step_view n p r v' ≡ step_of (open_rec n p) l v → step_view n p r (join v') ≡ step_of (open_rec n p) l w
+  stay_view t v v' join u a b e = sym (within_view join n p r v') ∙ stay (open_rec n p) l t v w join (step_view n p r v') u a b e
 
-  pub stay_x : tag_of l ≡ X → o ≡ step_of s l no_block → within (λ v. w) o ≡ step_of s l w
+  pub stay_s : tag_of l ≡ S → step_view n p r no_block ≡ step_of (open_rec n p) l no_block → step_view n p r w ≡ step_of (open_rec n p) l w
   unfolding stores_after blocks_after
-  stay_x u = stay s l X no_block w (λ v. w) o u refl refl
+  stay_s u = stay_view S no_block no_block (λ v. w) u refl refl
 
-  pub stay_b : tag_of l ≡ B → o ≡ step_of s l no_block → within (λ v. w) o ≡ step_of s l w
+  pub stay_x : tag_of l ≡ X → step_view n p r no_block ≡ step_of (open_rec n p) l no_block → step_view n p r w ≡ step_of (open_rec n p) l w
   unfolding stores_after blocks_after
-  stay_b u = stay s l B no_block w (λ v. w) o u refl refl
+  stay_x u = stay_view X no_block no_block (λ v. w) u refl refl
 
-  pub stay_r : tag_of l ≡ R → o ≡ step_of s l no_block → within (λ v. w) o ≡ step_of s l w
+  pub stay_b : tag_of l ≡ B → step_view n p r no_block ≡ step_of (open_rec n p) l no_block → step_view n p r w ≡ step_of (open_rec n p) l w
   unfolding stores_after blocks_after
-  stay_r u = stay s l R no_block w (λ v. w) o u refl refl
+  stay_b u = stay_view B no_block no_block (λ v. w) u refl refl
 
-  pub stay_e : tag_of l ≡ E → o ≡ step_of s l no_block → within (λ v. w) o ≡ step_of s l w
+  pub stay_r : tag_of l ≡ R → step_view n p r no_block ≡ step_of (open_rec n p) l no_block → step_view n p r w ≡ step_of (open_rec n p) l w
   unfolding stores_after blocks_after
-  stay_e u = stay s l E no_block w (λ v. w) o u refl refl
+  stay_r u = stay_view R no_block no_block (λ v. w) u refl refl
 
-  pub stay_c : tag_of l ≡ C → o ≡ step_of s l (point_blocks w.near w.far)
-      → within (λ v. lent_blocks v.near v.far w.slots w.daily w.readings w.curve) o ≡ step_of s l w
+  pub stay_e : tag_of l ≡ E → step_view n p r no_block ≡ step_of (open_rec n p) l no_block → step_view n p r w ≡ step_of (open_rec n p) l w
   unfolding stores_after blocks_after
-  stay_c u = stay s l C (point_blocks w.near w.far) w (λ v. lent_blocks v.near v.far w.slots w.daily w.readings w.curve) o u refl refl
+  stay_e u = stay_view E no_block no_block (λ v. w) u refl refl
 
-  pub stay_p : tag_of l ≡ P → o ≡ step_of s l (slot_block w.slots)
-      → within (λ v. lent_blocks w.near w.far v.slots w.daily w.readings w.curve) o ≡ step_of s l w
+  pub stay_c : (near far : List ℕ) → tag_of l ≡ C → step_view n p r (point_blocks near far) ≡ step_of (open_rec n p) l (point_blocks w.near w.far)
+      → step_view n p r (lent_blocks near far w.slots w.daily w.readings w.curve) ≡ step_of (open_rec n p) l w
   unfolding stores_after blocks_after
-  stay_p u = stay s l P (slot_block w.slots) w (λ v. lent_blocks w.near w.far v.slots w.daily w.readings w.curve) o u refl refl
+  stay_c near far u = stay_view C (point_blocks w.near w.far) (point_blocks near far) (λ v. lent_blocks v.near v.far w.slots w.daily w.readings w.curve) u refl refl
 
-  pub stay_d : tag_of l ≡ D → o ≡ step_of s l (daily_block w.daily)
-      → within (λ v. lent_blocks w.near w.far w.slots v.daily w.readings w.curve) o ≡ step_of s l w
+  pub stay_p : (slots : List ℕ) → tag_of l ≡ P → step_view n p r (slot_block slots) ≡ step_of (open_rec n p) l (slot_block w.slots)
+      → step_view n p r (lent_blocks w.near w.far slots w.daily w.readings w.curve) ≡ step_of (open_rec n p) l w
   unfolding stores_after blocks_after
-  stay_d u = stay s l D (daily_block w.daily) w (λ v. lent_blocks w.near w.far w.slots v.daily w.readings w.curve) o u refl refl
+  stay_p slots u = stay_view P (slot_block w.slots) (slot_block slots) (λ v. lent_blocks w.near w.far v.slots w.daily w.readings w.curve) u refl refl
+
+  pub stay_d : (daily : List ℕ) → tag_of l ≡ D → step_view n p r (daily_block daily) ≡ step_of (open_rec n p) l (daily_block w.daily)
+      → step_view n p r (lent_blocks w.near w.far w.slots daily w.readings w.curve) ≡ step_of (open_rec n p) l w
+  unfolding stores_after blocks_after
+  stay_d daily u = stay_view D (daily_block w.daily) (daily_block daily) (λ v. lent_blocks w.near w.far w.slots v.daily w.readings w.curve) u refl refl

@@ -1,5 +1,5 @@
 pub mod Steps
 pub mod ProgressViews
 pub mod TallyViews
-pub mod YearRanges
 pub mod SiteRanges
+pub mod YearTests

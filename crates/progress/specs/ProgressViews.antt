@@ -1,14 +1,16 @@
 -- Progress and steps, in the code and in the definitions of document 01.
-use Rattle.std.specs.Prelude.{false, ◌≡◌, ℕ}
+use Rattle.std.specs.Prelude.{true, ◌≡◌, ℕ, Option, Some, None, Result, Ok, Err}
 use Rattle.line_form.specs.Views.{site_view}
 use Rattle.progress.specs.TallyViews.{last_dates_view, tallies_view}
 use Rattle.meaning.specs.Line.{Line}
 use Rattle.meaning.specs.Blocks.{Blocks}
 use Rattle.meaning.specs.Record as meant
 use Rattle.meaning.specs.Record.{Rec}
-use Rattle.readings.specs.declared.Kind.TheVariants.{E}
+use Rattle.refusals.specs.declared.Refusal.{Refusal}
+use Rattle.refusals.specs.Refusals.{refusal_number}
+use Rattle.readings.specs.declared.Reading.{Reading}
 use Rattle.readings.specs.Readings.{kind_view}
-use Rattle.progress.specs.Steps.{Stepped, step_of}
+use Rattle.progress.specs.Steps.{Stepped, with_no_reading, step_of}
 use Rattle.progress.specs.declared.State.{State}
 use Rattle.progress.specs.declared.State.TheVariants.{NeverOpened, Open, Refused, Closed}
 use Rattle.progress.specs.declared.Progress.{Progress}
@@ -36,22 +38,16 @@ rec_of st n p = record {
 abbrev pub open_rec : ℕ → Progress → Rec
 open_rec n p = rec_of Open n p
 
--- a step on an open record of count n, with the blocks after it
-abbrev pub step_view : ℕ → Step → Blocks → Stepped
-step_view n r w = record {
-  number = r.number;
-  after = open_rec n r.progress;
-  reads = r.reads;
-  position = r.position;
-  index = r.index;
-  kind = kind_view r.kind;
-  blocks = w;
-}
+-- an accepted line: the record and the blocks after it, and its reading if it has one
+abbrev pub taken_view : Rec → Option Reading → Blocks → Stepped
+taken_view s None w = with_no_reading 0 s w
+taken_view s (Some r) w = record { number = 0; after = s; reads = true; position = r.position; index = r.count; kind = kind_view r.kind; blocks = w }
 
--- a step without a reading
-abbrev pub no_reading : ℕ → Progress → Step
-no_reading n p = record { number = n; progress = p; reads = false; position = 0; index = 0; kind = E }
+-- a line on an open record of count n and this progress, with the blocks after it: refused, which leaves the record, or taken
+abbrev pub step_view : ℕ → Progress → Result Step Refusal → Blocks → Stepped
+step_view n p (Err y) w = with_no_reading (refusal_number y) (open_rec n p) w
+step_view n p (Ok r) w = taken_view (open_rec n r.progress) r.reading w
 
 -- for every count: only E uses it
-abbrev pub StepsTo : Progress → Line → Blocks → Step → Blocks → Type 0
-StepsTo p l w r w' = (n : ℕ) → step_view n r w' ≡ step_of (open_rec n p) l w
+abbrev pub StepsTo : Progress → Line → Blocks → Result Step Refusal → Blocks → Type 0
+StepsTo p l w r w' = (n : ℕ) → step_view n p r w' ≡ step_of (open_rec n p) l w

@@ -5,9 +5,8 @@ ghost use Rattle.meaning.specs.Record.{tallies_fit};
 ghost use Rattle.progress.specs.TallyViews.{tallies_view};
 
 use crate::Tallies;
-use crate::year_range::{TallyKind, each_year};
-use calendar::{axis, history};
-use text::and;
+use crate::year_range::each_year;
+use calendar::{all_dates, all_winter_dates, axis, history};
 
 // Whether each number by year is in its range, for the history of an AL and a filière.
 pub(crate) fn tallies_fit(al: u64, filiere: u64, tallies: Tallies) -> bool
@@ -15,17 +14,15 @@ pub(crate) fn tallies_fit(al: u64, filiere: u64, tallies: Tallies) -> bool
 {
     let h = history(al, filiere);
     let around = axis(al, filiere);
-    let profile_dates = tallies.profile_dates;
-    let daily_dates = tallies.daily_dates;
-    let breaks = tallies.breaks;
-    let rates = tallies.rates;
-    let declared = and(
-        each_year(h, TallyKind::Breaks, &breaks),
-        each_year(h, TallyKind::Rates, &rates),
-    );
-    let sums = and(
-        each_year(around, TallyKind::DailyDates, &daily_dates),
-        declared,
-    );
-    and(each_year(h, TallyKind::ProfileDates, &profile_dates), sums)
+    each_year(
+        h,
+        &tallies.profile_dates,
+        |year, n| n <= all_winter_dates(year),
+    ) && each_year(around, &tallies.daily_dates, |year, n| n <= all_dates(year))
+        && each_year(h, &tallies.breaks, |_, n| n <= 1)
+        && each_year(
+            h,
+            &tallies.rates,
+            |_, rate| rate == 0 || (10..=1000).contains(&rate),
+        )
 }

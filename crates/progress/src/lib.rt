@@ -1,10 +1,9 @@
 // The progress of a record, which is what its lines so far gave: the site, the last date of each tag, the number of readings, and numbers by year.
-// The result of one line, and whether each number is in its field's range (1).
+// What an accepted line makes of it, and whether each number is in its field's range (1).
 //
-// A step returns the progress and, for an X line, the reading: the caller stores it and keeps state and count.
+// A step has the progress and, for an X line, the reading: the caller stores it and keeps state and count.
 #![tactic(auto)]
 
-mod plain_step; // a step without a reading
 mod site_ranges; // 1 on what S gave: AL, filière, meter and PS
 mod last_dates; // 1 on the last date or year of each tag
 mod by_year; // 1 on the numbers by year
@@ -13,8 +12,7 @@ mod record_ranges; // 1 on all numbers of a record
 mod states; // whether a record is open
 
 use line_form::Site;
-pub use plain_step::no_reading;
-use readings::Kind;
+use readings::Reading;
 pub use record_ranges::{once_taken, record_fits};
 pub use states::is_open;
 
@@ -39,16 +37,11 @@ pub struct Progress {
     pub tallies: Tallies,
 }
 
+// What an accepted line gives: the progress after it, and the reading to store, which only an X line has. A refused line leaves the progress.
 #[derive(Clone, Copy)]
 pub struct Step {
-    // 0 if taken, else the refusal's number, 2 to 12, and the progress is unchanged
-    pub number: u64,
     pub progress: Progress,
-    // whether there is a reading to store, and the reading
-    pub reads: bool,
-    pub position: usize,
-    pub index: u64,
-    pub kind: Kind,
+    pub reading: Option<Reading>,
 }
 
 // The last date of C, X, D, P as 366 times the year and the date place, the last year of B, R; 0 for none.

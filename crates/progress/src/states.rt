@@ -8,10 +8,5 @@ use crate::State;
 pub fn is_open(state: State) -> bool
     ensures { result ≡ is_open (state_view state) }
 {
-    match state {
-        State::NeverOpened => false,
-        State::Open => true,
-        State::Refused => false,
-        State::Closed => false,
-    }
+    matches!(state, State::Open)
 }

@@ -6,8 +6,9 @@ use Prim.Native.Nat.{ℕ, zero, suc, ◌≤◌}
 use native.Mathlib.Nat.{not-suc-le-zero, le_of_suc-le-suc}
 use native.Mathlib.Omega.{arith}
 use lib.Dec.{T}
-use lib.ListN.{length, get_or, set, replicate, length-map, length-set, length-replicate, get_or-map}
+use lib.ListN.{length, get_or, set, replicate, length-map, length-replicate, get_or-map}
 use lib.Seq.{ext_get_or}
+use Rattle.std.proofs.lemmas.List.{map-set}
 use Rattle.lists.specs.Lists.{tab}
 use Rattle.lists.proofs.Laws.{length_tab, get_d_tab0}
 use Rattle.lists.proofs.Tables.{tab_same}
@@ -18,14 +19,10 @@ use Rattle.meaning.specs.Blocks.{letter_of_kind}
 use Rattle.readings.specs.declared.Kind.{Kind}
 use Rattle.readings.specs.declared.Kind.TheVariants.{R, C, E}
 use Rattle.readings.specs.declared.Reading.{Reading}
+use Rattle.readings.proofs.LetterKinds.{back}
 use Rattle.readings.specs.Readings.{kind_view, reading_view, kind_repr, fresh, readings_view, freshened, letter, positions_of, counts_of, letters_of, first_readings, columns_of}
 
 -- ---- any field of each reading
-pub map_set : {A B : Type 0} (f : A → B) (xs : List A) (i : ℕ) (x : A) → map f (set xs i x) ≡ set (map f xs) i (f x)
-map_set f [] i x = refl
-map_set f (y ∷ ys) zero x = refl
-map_set {B = B} f (y ∷ ys) (suc i) x = ap (λ (zs : List B). f y ∷ zs) (map_set f ys i x)
-
 pub map_replicate : {A B : Type 0} (f : A → B) (n : ℕ) (x : A) → map f (replicate n x) ≡ replicate n (f x)
 map_replicate f zero x = refl
 map_replicate {B = B} f (suc n) x = ap (λ (zs : List B). f x ∷ zs) (map_replicate f n x)
@@ -33,7 +30,7 @@ map_replicate {B = B} f (suc n) x = ap (λ (zs : List B). f x ∷ zs) (map_repli
 -- ---- the list as the definitions read it
 pub seen_put : (rs : List Reading) (i : ℕ) (r : Reading) → readings_view (set rs i r) ≡ set (readings_view rs) i (reading_view r)
 unfolding readings_view
-seen_put rs i r = map_set reading_view rs i r
+seen_put rs i r = map-set reading_view rs i r
 
 pub seen_length : (rs : List Reading) → length (readings_view rs) ≡ length rs
 unfolding readings_view
@@ -49,9 +46,6 @@ pub put_past : (rs : List Reading) (i : ℕ) (r : Reading) → length rs ≤ i �
 put_past [] i r l = refl
 put_past (y ∷ rs) zero r l = absurd (not-suc-le-zero l)
 put_past (y ∷ rs) (suc i) r l = ap (λ (zs : List Reading). y ∷ zs) (put_past rs i r (le_of_suc-le-suc l))
-
-pub put_length : (rs : List Reading) (i : ℕ) (r : Reading) → length (set rs i r) ≡ length rs
-put_length rs i r = length-set rs i r
 
 pub fresh_length : (all : Bool) (rs : List Reading) → length (freshened all rs) ≡ length rs
 unfolding freshened
@@ -100,11 +94,6 @@ kind_shown estimated t = refl
 kind_shown no_kind t = absurd t
 
 -- ---- lists with the same view are the same
-back : (k : Kind) → kind_repr (kind_view k) ≡ k
-back R = refl
-back C = refl
-back E = refl
-
 pub same_reading : (r q : Reading) → reading_view r ≡ reading_view q → r ≡ q
 same_reading r q e = λ i. record {
   position = ap (λ (x : meant.Reading). x.position) e i;

@@ -1,5 +1,5 @@
+pub mod LetterKinds
 pub mod Laws
 pub mod ColumnLengths
 pub mod Columned
-pub mod FreshSoFar
-pub mod ColumnsSoFar
+pub mod MadeColumns

@@ -1,11 +1,13 @@
 -- The readings as a call is lent them, and as the definitions of document 01 read them (document 01, Calls).
-use Rattle.std.specs.Prelude.{Bool, cond, List, map, ℕ, length, get_or, replicate}
+use Rattle.std.specs.Prelude.{Bool, cond, List, map, ◌≡◌, ℕ, length, get_or, replicate, Result, MatchResult}
 use Rattle.lists.specs.Lists.{tab}
 use Rattle.meaning.specs.Filing as meant
 use Rattle.meaning.specs.Filing.{real, corrected, estimated, no_kind, reading}
+use Rattle.meaning.specs.Line.{kind_of_letter}
 use Rattle.meaning.specs.Blocks.{readings_size, letter_of_kind}
 use Rattle.readings.specs.declared.Kind.{Kind}
 use Rattle.readings.specs.declared.Kind.TheVariants.{R, C, E}
+use Rattle.readings.specs.declared.UnknownKind.{UnknownKind}
 use Rattle.readings.specs.declared.Reading.{Reading}
 use Rattle.readings.specs.declared.Columns.{Columns}
 
@@ -24,6 +26,10 @@ kind_repr real = R
 kind_repr corrected = C
 kind_repr estimated = E
 kind_repr no_kind = E
+
+-- the kind of the letter, or an error where the letter is none of the three
+abbrev pub Reads : ℕ → Result Kind UnknownKind → Type 0
+Reads letter r = MatchResult r (λ kind. kind_view kind ≡ kind_of_letter letter) (λ e. no_kind ≡ kind_of_letter letter)
 
 -- at position 0, count 0, kind E
 abbrev pub fresh : Reading

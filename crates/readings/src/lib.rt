@@ -6,16 +6,48 @@ mod reading_list; // the functions that touch the lent list: one reading stored,
 ghost use Rattle.std.specs.Prelude.{◌≡◌};
 ghost use Rattle.meaning.specs.Line.{kind_of_letter, is_kind};
 ghost use Rattle.meaning.specs.Blocks.{letter_of_kind};
-ghost use Rattle.readings.specs.Readings.{kind_view, kind_repr, fresh_readings};
+ghost use Rattle.readings.specs.Readings.{kind_view, kind_repr, Reads, fresh_readings};
 
 pub use reading_list::{columns_of, put, set_fresh};
 
 // R real, C corrected, E estimated.
-#[derive(Clone, Copy)]
+#[derive(Clone, Copy, Debug, PartialEq, Eq)]
 pub enum Kind {
     R,
     C,
     E,
+}
+
+// A letter that is no kind's.
+#[derive(Clone, Copy, Debug, PartialEq, Eq)]
+pub struct UnknownKind(pub u8);
+
+impl TryFrom<u8> for Kind {
+    type Error = UnknownKind;
+
+    ghost try_from_gives = { Reads };
+
+    #[tactic(auto, unfolding(meaning::specs::Line::kind_of_letter))]
+    fn try_from(letter: u8) -> Result<Kind, UnknownKind> {
+        match letter {
+            b'R' => Ok(Kind::R),
+            b'C' => Ok(Kind::C),
+            b'E' => Ok(Kind::E),
+            _ => Err(UnknownKind(letter)),
+        }
+    }
+}
+
+impl From<Kind> for u8 {
+    ghost from_gives = { λ kind letter. letter ≡ letter_of_kind (kind_view kind) };
+
+    fn from(kind: Kind) -> u8 {
+        match kind {
+            Kind::R => b'R',
+            Kind::C => b'C',
+            Kind::E => b'E',
+        }
+    }
 }
 
 #[derive(Clone, Copy)]
@@ -25,7 +57,14 @@ pub struct Reading {
     pub kind: Kind,
 }
 
-// The fields of 600 readings, a column for each, with the letters of the kinds.
+// A reading before any is stored at its place.
+pub(crate) const FRESH: Reading = Reading {
+    position: 0,
+    count: 0,
+    kind: Kind::E,
+};
+
+// The fields of 600 readings, a column for each, with the letters of the kinds: the core runs over plain columns, a rule of the project.
 #[derive(Clone, Copy)]
 pub struct Columns {
     pub positions: [u32; 600],
@@ -33,39 +72,19 @@ pub struct Columns {
     pub kinds: [u8; 600],
 }
 
-pub(crate) fn letter_of(kind: Kind) -> u8
-    ensures { result ≡ letter_of_kind (kind_view kind) }
-{
-    match kind {
-        Kind::R => b'R',
-        Kind::C => b'C',
-        Kind::E => b'E',
-    }
-}
-
-#[tactic(auto, unfolding(meaning::specs::Line::kind_of_letter))]
+#[tactic(auto, using(crate::proofs::LetterKinds::reads_ok))]
 pub fn is_kind(letter: u8) -> bool
     ensures { result ≡ is_kind (kind_of_letter letter) }
 {
-    if letter == b'R' {
-        return true;
-    }
-    if letter == b'C' {
-        return true;
-    }
-    letter == b'E'
+    Kind::try_from(letter).is_ok()
 }
 
 // The kind of a letter; one that is none of the three counts as E.
-#[tactic(auto, unfolding(meaning::specs::Line::kind_of_letter))]
+#[tactic(auto, using(crate::proofs::LetterKinds::reads_or))]
 pub fn kind_of(letter: u8) -> Kind
     ensures { result ≡ kind_repr (kind_of_letter letter) }
 {
-    match letter {
-        b'R' => Kind::R,
-        b'C' => Kind::C,
-        _ => Kind::E,
-    }
+    Kind::try_from(letter).unwrap_or(Kind::E)
 }
 
 // 600 fresh readings, as many as a file can have: the list before an opening.
@@ -73,10 +92,5 @@ pub fn kind_of(letter: u8) -> Kind
 pub fn fresh_readings() -> [Reading; 600]
     ensures { result ≡ fresh_readings }
 {
-    let fresh = Reading {
-        position: 0,
-        count: 0,
-        kind: Kind::E,
-    };
-    [fresh; 600]
+    [FRESH; 600]
 }

@@ -1,10 +1,9 @@
 -- The record, the answers and the lent blocks, as the calls have them and as the definitions of document 01 do.
-use Rattle.std.specs.Prelude.{Bool, cond}
 use Rattle.answers.specs.Views.{answer_view}
 use Rattle.progress.specs.ProgressViews.{rec_of}
 use Rattle.meaning.specs.Blocks.{Blocks}
-use Rattle.meaning.specs.Record.{Rec, fresh_rec}
-use Rattle.meaning.specs.Calls.{Out, out, accepted, leaves}
+use Rattle.meaning.specs.Record.{Rec}
+use Rattle.meaning.specs.Calls.{Out, out}
 use Rattle.record_calls.specs.declared.Record.{Record}
 use Rattle.close.specs.Ends.{CloseOut, close_out}
 use Rattle.record_calls.specs.declared.CallResult.{CallResult}
@@ -16,10 +15,6 @@ view s = rec_of s.state s.count s.progress
 -- what a call hands back, with the lists as it leaves them
 abbrev pub call_view : CallResult → Blocks → Out
 call_view r w = out (answer_view r.answer) (view r.«record») w
-
--- an opening, by whether the blocks have their sizes
-unfoldable pub opened_by : Bool → Record → Blocks → Out
-opened_by sized s w = cond sized (out accepted fresh_rec w) (leaves 1 (view s) w)
 
 -- what a close hands back
 abbrev pub close_view : CloseResult → Blocks → CloseOut

@@ -6,11 +6,13 @@ ghost use Rattle.readings.specs.Columns.{lent_blocks};
 ghost use Rattle.close.specs.Ends.{close_repr};
 ghost use Rattle.record_calls.specs.Views.{view, call_view, close_view};
 
-use crate::packing::{close_answer, line_answer, open_answer};
-use crate::whole::{close_of_record, line_of_record};
 use crate::{CallResult, CloseResult, Record};
-use open_and_line::open_blocks;
-use readings::{Reading, columns_of, put, set_fresh};
+use answers::{Answer, answer_to};
+use close::{ReadBlocks, close_blocks};
+use open_and_line::{apply_line, open_blocks};
+use progress::State;
+use readings::{Reading, columns_of, set_fresh};
+use refusals::Refusal;
 
 impl Record {
     // Opens the record. Always allowed where the blocks have their sizes, whatever record and blocks hold.
@@ -27,7 +29,17 @@ impl Record {
     {
         let sized = open_blocks(near, far, slots, daily, readings.len(), curve);
         set_fresh(readings, sized);
-        open_answer(self, sized)
+        if sized {
+            CallResult {
+                record: Record::empty(State::Open),
+                answer: Answer::Accepted,
+            }
+        } else {
+            CallResult {
+                record: self,
+                answer: answer_to(Err(Refusal::Unfit), self.count),
+            }
+        }
     }
 
     // Takes a line. 1 and 13 come first, and leave the record.
@@ -43,8 +55,10 @@ impl Record {
     ) -> CallResult
         ensures { call_view result (lent_blocks near.new far.new slots.new daily.new (readings_view readings.new) curve.now) ≡ line_of (view self) line.now (lent_blocks near.old far.old slots.old daily.old (readings_view readings.old) curve.now) }
     {
-        let outcome = line_of_record(
-            self,
+        let outcome = apply_line(
+            self.state,
+            self.count,
+            self.progress,
             line,
             near,
             far,
@@ -53,8 +67,15 @@ impl Record {
             readings.len(),
             curve.len(),
         );
-        put(readings, outcome.reading_place, outcome.reading);
-        line_answer(outcome)
+        outcome.store(readings);
+        CallResult {
+            record: Record {
+                state: outcome.state,
+                count: outcome.count,
+                progress: outcome.progress,
+            },
+            answer: outcome.answer,
+        }
     }
 
     // Closes the record. 1 and 13 leave it; 14 to 18 mark it refused.
@@ -69,17 +90,26 @@ impl Record {
     ) -> CloseResult
         ensures { close_view result (lent_blocks near.now far.now slots.now daily.now (readings_view readings.now) curve.new) ≡ close_repr (close_of (view self) (lent_blocks near.now far.now slots.now daily.now (readings_view readings.now) curve.old)) }
     {
-        let columns = columns_of(readings);
-        let outcome = close_of_record(
-            self,
-            near,
-            far,
-            slots,
-            daily,
-            columns,
+        let outcome = close_blocks(
+            self.state,
+            self.count,
+            self.progress,
+            ReadBlocks {
+                near,
+                far,
+                slots,
+                daily,
+            },
+            columns_of(readings),
             readings.len(),
             curve,
         );
-        close_answer(self, outcome)
+        self.state = outcome.state;
+        let years = outcome.years;
+        CloseResult {
+            record: self,
+            answer: outcome.answer,
+            years,
+        }
     }
 }

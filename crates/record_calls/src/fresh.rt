@@ -8,51 +8,50 @@ use crate::Record;
 use line_form::{Meter, Site};
 use progress::{LastDates, Progress, State, Tallies};
 
-// A record in a state, with no line taken.
-pub(crate) fn empty(state: State) -> Record
-    ensures { view result ≡ empty_rec (state_view state) }
-{
-    let site = Site {
+// What no line gives.
+const NOTHING_TAKEN: Progress = Progress {
+    last: 0,
+    site: Site {
         al: 0,
         filiere: 0,
         meter: Meter::NoMeter,
         ps: 0,
-    };
-    let lasts = LastDates {
+    },
+    readings: 0,
+    last_index: 0,
+    lasts: LastDates {
         c: 0,
         x: 0,
         d: 0,
         p: 0,
         b: 0,
         r: 0,
-    };
-    let none = [0u64; 10];
-    let around = [0u64; 12];
-    let tallies = Tallies {
-        profile_dates: none,
-        daily_dates: around,
-        breaks: none,
-        rates: none,
-    };
-    let progress = Progress {
-        last: 0,
-        site,
-        readings: 0,
-        last_index: 0,
-        lasts,
-        tallies,
-    };
-    Record {
-        state,
-        count: 0,
-        progress,
-    }
-}
+    },
+    tallies: Tallies {
+        profile_dates: [0; 10],
+        daily_dates: [0; 12],
+        breaks: [0; 10],
+        rates: [0; 10],
+    },
+};
 
 impl Record {
+    // A record in a state, with no line taken.
+    #[tactic(auto, unfolding(meaning::specs::Record::empty_rec, meaning::specs::Filing::no_site))]
+    pub(crate) fn empty(state: State) -> Record
+        ensures { view result ≡ empty_rec (state_view state) }
+    {
+        Record {
+            state,
+            count: 0,
+            progress: NOTHING_TAKEN,
+        }
+    }
+
+    #[tactic(auto, unfolding(meaning::specs::Record::never_opened))]
     pub fn never_opened() -> Record
         ensures { view result ≡ never_opened }
     {
-        empty(State::NeverOpened)
+        Record::empty(State::NeverOpened)
     }
 }

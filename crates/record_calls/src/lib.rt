@@ -3,13 +3,11 @@
 // Each call takes the record and hands it back, with the lent blocks as further parameters. What it promises is one equation: answer, record and all
 // lent lists are what the definitions of document 01 say of the record and the lists that it got.
 //
-// The work of a call is a function of plain parameters. The lent list of readings is touched apart from it: copied before a close, made fresh after
+// The work of a call is a function of the record's parts, in a crate below: methods stand in the crate of their type alone. The lent list of readings is touched apart from it: copied before a close, made fresh after
 // an opening, one reading stored after a line.
 #![tactic(auto)]
 
 mod calls; // opening, line and close
-mod whole; // the work of a line and of the close, on a whole record
-mod packing; // what a call hands back
 mod fresh; // a record never opened, and one just opened
 
 use answers::Answer;

@@ -7,6 +7,7 @@ use crate::Power;
 use crate::nearest::half_up;
 
 // A point after its year's rate, which is in thousandths.
+#[tactic(auto, unfolding(crate::specs::Points::rounded, crate::specs::Points::rated))]
 pub fn rated(p: Power, rate: u64) -> Power
     requires { (p.0 ≤ 200_000_000_000) × (10 ≤ rate) × (rate ≤ 1000) }
     ensures { result ≡ in_mw (rounded (rated p.0 rate)) }
@@ -15,6 +16,7 @@ pub fn rated(p: Power, rate: u64) -> Power
 }
 
 // The NCC in W: C, in hundredths, times the mean of the n present points, whose sum is at most 4,400 times the largest point after a rate of 10.
+#[tactic(auto, unfolding(crate::specs::Points::rounded, crate::specs::Points::level))]
 pub fn level(c: u64, points: Power, n: u64) -> u64
     requires { (c ≤ 100) × (points.0 ≤ 88_000_000_000_000_000) × (0 < n) × (n ≤ 4400) }
     ensures { result ≡ rounded (level c points.0 n) }

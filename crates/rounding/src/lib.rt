@@ -9,16 +9,13 @@ pub use levels::{level, rated};
 pub use rebuilding::{by_default, profiled, rebuilt};
 
 // Wh: the difference of two index readings.
-#[derive(Clone, Copy)]
+#[derive(Clone, Copy, Debug, PartialEq, Eq)]
 pub struct Energy(pub u64);
 
 // mW: a point of a curve, or a sum of points.
-#[derive(Clone, Copy)]
+#[derive(Clone, Copy, Debug, PartialEq, Eq)]
 pub struct Power(pub u64);
 
-// A point that was computed, or refusal 18.
-#[derive(Clone, Copy)]
-pub enum Point {
-    Is(Power),
-    Exceeds,
-}
+// Refusal 18: a point above the limit.
+#[derive(Clone, Copy, Debug, PartialEq, Eq)]
+pub struct Exceeds;

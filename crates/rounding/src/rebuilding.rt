@@ -4,21 +4,22 @@ ghost use Rattle.rounding.specs.Points.{rounded, profiled, rebuilt, by_default};
 ghost use Rattle.rounding.specs.Answers.{point_of};
 
 use crate::nearest::half_up;
-use crate::{Energy, Point, Power};
+use crate::{Energy, Exceeds, Power};
 
 // A rounded number of mW as a point, or 18: 200,000,000,000 itself is still a point.
-fn limited(mw: u64) -> Point
+#[tactic(auto, using(crate::proofs::Answers::point_is, crate::proofs::Answers::point_exceeds))]
+fn limited(mw: u64) -> Result<Power, Exceeds>
     ensures { result ≡ point_of mw }
 {
     if 200_000_000_000 < mw {
-        return Point::Exceeds;
+        return Err(Exceeds);
     }
-    Point::Is(Power(mw))
+    Ok(Power(mw))
 }
 
 // Cases 1 and P: the one step from an energy to a power. The total is at most 4,392 daily sums of 3,145,680.
 // The energy is split by the total, since 2000 × energy × profile may not fit; where the whole part alone is too large, no product is made.
-pub fn profiled(e: Energy, profile: u64, total: u64) -> Point
+pub fn profiled(e: Energy, profile: u64, total: u64) -> Result<Power, Exceeds>
     requires { (e.0 ≤ 1_000_000_000_000) × (profile ≤ 65_535) × (0 < total) × (total ≤ 13_815_826_560) }
     ensures { result ≡ point_of (rounded (profiled e.0 profile total)) }
 {
@@ -26,13 +27,14 @@ pub fn profiled(e: Energy, profile: u64, total: u64) -> Point
     let r = e.0 % total;
     let whole = q * profile;
     if 100_000_000 < whole {
-        return Point::Exceeds;
+        return Err(Exceeds);
     }
     limited(2000 * whole + half_up(2000 * (r * profile), total))
 }
 
 // Cases 2, 3 and 5, from at most ten donors, each at most at the limit of 18.
-pub fn rebuilt(ca: u64, points: Power, cas: u64) -> Point
+#[tactic(auto, unfolding(crate::specs::Points::rounded, crate::specs::Points::rebuilt))]
+pub fn rebuilt(ca: u64, points: Power, cas: u64) -> Result<Power, Exceeds>
     requires { (ca ≤ 9_999) × (points.0 ≤ 2_000_000_000_000) × (0 < cas) × (cas ≤ 99_990) }
     ensures { result ≡ point_of (rounded (rebuilt ca points.0 cas)) }
 {
@@ -40,7 +42,14 @@ pub fn rebuilt(ca: u64, points: Power, cas: u64) -> Point
 }
 
 // Cases 4 and 6. The product before CA × N is split by the divisor, since the whole product may not fit.
-pub fn by_default(ps: u64, theta: u64, profile: u64, ca: u64, n: u64, cas: u64) -> Point
+pub fn by_default(
+    ps: u64,
+    theta: u64,
+    profile: u64,
+    ca: u64,
+    n: u64,
+    cas: u64,
+) -> Result<Power, Exceeds>
     requires { (ps ≤ 100_000_000) × (theta ≤ 100_000) × (profile ≤ 65_535) × (ca ≤ 9_999) × (n ≤ 10) × (0 < cas) × (cas ≤ 99_990) }
     ensures { result ≡ point_of (rounded (by_default ps theta profile ca n cas)) }
 {

@@ -1,18 +1,20 @@
 -- The end of a run: what is returned where it has its final answer, where nothing is pending, and after a last line.
 use mathlib.Core.Path.{◌≡◌, refl, sym, ◌∙◌}
-use mathlib.Core.Bool.{Bool, true, false, ◌&&◌, not, false≢true}
-use mathlib.Core.List.{List, [], ◌∷◌}
-use Prim.Native.Nat.{ℕ, ◌<◌, min}
+use mathlib.Core.Bool.{true, false}
+use mathlib.Core.List.{[], ◌∷◌}
+use Prim.Native.Nat.{◌<◌, min}
 use native.Mathlib.Omega.{arith}
-use lib.Dec.{ltb}
-use lib.ListN.{length, take, length-take}
-use borrow.Author.Tests.{ltb-true, ltb-false}
+use lib.ListN.{length, length-take}
+use borrow.Author.Tests.{eqb-true, eqb-false}
+use Rattle.std.proofs.Common.{◌==◌}
 use Rattle.lists.specs.Lists.{tab}
 use Rattle.meaning.specs.Line.{Line}
 use Rattle.meaning.specs.Blocks.{Blocks}
 use Rattle.meaning.specs.Record.{Rec}
 use Rattle.meaning.specs.Calls.{Out, out, line_of, close_of}
 use Rattle.pieces.specs.Run.{run_of, is_final, close_unless_final, last_line, finished}
+use Rattle.pieces.specs.declared.joining.Pending.{Pending}
+use Rattle.pieces.specs.Joined.{pending_line}
 use Rattle.close.specs.FileOutcomes.{years_repr}
 use Rattle.answers.specs.declared.Answer.{Answer}
 use Rattle.answers.specs.declared.Answer.TheVariants.{Accepted, Refused, Reported}
@@ -49,13 +51,13 @@ ended_open : (o : Out) (l : Line) → is_final o.answer ≡ false → finished (
 unfolding finished
 ended_open o l h = rw h
 
-pub ended_now : (o : Out) (line : List ℕ) (h : ℕ) → (not (is_final o.answer) && ltb 0 h) ≡ false → close_unless_final o ≡ finished (run_of o (take (min h 320) line))
-unfolding finished last_line
-ended_now o line h t = go (is_final o.answer) refl t
-  where
-    go : (b : Bool) → is_final o.answer ≡ b → (not b && ltb 0 h) ≡ false → close_unless_final o ≡ finished (run_of o (take (min h 320) line))
-    go true e q = shut_answered o e ∙ rw e
-    go false e q = let z : min h 320 ≡ 0 = omega (arith, ltb-false 0 h q) in rw z (sym (ended_open o [] e))
+pub ended_answered : (o : Out) (l : Line) → is_final o.answer ≡ true → close_unless_final o ≡ finished (run_of o l)
+unfolding finished
+ended_answered o l e = shut_answered o e ∙ rw e
+
+pub ended_empty : (o : Out) (p : Pending) → is_final o.answer ≡ false → (p.held == 0) ≡ true → close_unless_final o ≡ finished (run_of o (pending_line p))
+unfolding last_line
+ended_empty o p e z = rw (eqb-true p.held 0 z) (sym (ended_open o [] e))
 
 -- ---- a last line
 last_given : (o : Out) (l : Line) → 0 < length l → last_line o l ≡ line_of o.after l o.blocks
@@ -63,12 +65,9 @@ unfolding last_line
 last_given o [] h = absurd (omega arith)
 last_given o (b ∷ l) h = refl
 
-pub ended_last : (o : Out) (line : List ℕ) (h : ℕ) (o' : Out) → length line ≡ 321 → (not (is_final o.answer) && ltb 0 h) ≡ true
-    → o' ≡ line_of o.after (take (min h 320) line) o.blocks → close_unless_final o' ≡ finished (run_of o (take (min h 320) line))
-ended_last o line h o' n t e = go (is_final o.answer) refl t
-  where
-    go : (b : Bool) → is_final o.answer ≡ b → (not b && ltb 0 h) ≡ true → close_unless_final o' ≡ finished (run_of o (take (min h 320) line))
-    go true u q = absurd (false≢true q)
-    go false u q =
-        let k : 0 < length (take (min h 320) line) = omega (arith, length-take (min h 320) line, ltb-true 0 h q) in
-        rw (e, ended_open o (take (min h 320) line) u, last_given o (take (min h 320) line) k)
+pub ended_last : (o : Out) (p : Pending) (o' : Out) → length p.line ≡ 321 → is_final o.answer ≡ false → (p.held == 0) ≡ false
+    → o' ≡ line_of o.after (pending_line p) o.blocks → close_unless_final o' ≡ finished (run_of o (pending_line p))
+ended_last o p o' long e z q =
+    let some_held : (p.held ≡ 0 → ⊥) = eqb-false p.held 0 z in
+    let some_left : 0 < length (pending_line p) = omega (arith, length-take (min p.held 320) p.line) in
+    rw (q, ended_open o (pending_line p) e, last_given o (pending_line p) some_left)

@@ -1,3 +1,2 @@
 pub mod RunViews
-pub mod FeedViews
 pub mod RunEnds

@@ -6,8 +6,9 @@ ghost use Rattle.readings.specs.Readings.{readings_view, fresh_readings};
 ghost use Rattle.readings.specs.Columns.{lent_blocks};
 ghost use Rattle.run.specs.RunViews.{run_view};
 
-use crate::{OwnRun, start};
+use crate::{OwnRun, Run};
 use own_calls::open_own;
+use pieces::Pending;
 use readings::fresh_readings;
 use record_calls::Record;
 
@@ -20,7 +21,7 @@ pub fn begin(
 ) -> OwnRun
     ensures { run_view result.run (lent_blocks near.new far.new slots.new daily.new (readings_view result.readings) curve.new) ≡ started never_opened (lent_blocks near.old far.old slots.old daily.old (readings_view fresh_readings) curve.old) }
 {
-    let result = open_own(
+    let opened = open_own(
         Record::never_opened(),
         near,
         far,
@@ -29,10 +30,11 @@ pub fn begin(
         fresh_readings(),
         curve,
     );
-    let call = result.call;
-    let readings = result.readings;
+    let call = opened.call;
+    let readings = opened.readings;
+    let pending = Pending::of(&[]);
     OwnRun {
-        run: start(call),
+        run: Run { call, pending },
         readings,
     }
 }

@@ -2,37 +2,28 @@
 use mathlib.Core.Path.{◌≡◌, refl, ap, sym, ◌∙◌}
 use mathlib.Core.Bool.{Bool, true, false, cond}
 use mathlib.Core.List.{List, [], ◌∷◌, ◌++◌, append_assoc, append-nil, map}
-use Prim.Native.Nat.{ℕ, ◌+◌, ◌^◌, ◌≤◌, ◌<◌}
+use Prim.Native.Nat.{ℕ, ◌+◌, ◌*◌, ◌^◌, ◌≤◌, ◌<◌}
 use native.Mathlib.Numerals.{add-one}
 use native.Mathlib.Omega.{arith}
 use lib.Dec.{eqb}
-use lib.ListN.{length, take, get_or, length-append, take-append-drop}
+use lib.ListN.{length, take, get_or, length-append}
 use lib.Seq.{take-suc, take_all}
 use borrow.Author.Tests.{eq-eqb, ne_eqb}
 use Rattle.lists.specs.Lists.{flat}
-use Rattle.text.proofs.Written.{written_fits, take_written}
-use Rattle.meaning.specs.Text.{level_text, year_text}
-use Rattle.sheet.specs.Put.{Put}
+use Rattle.meaning.specs.Text.{level_text, year_text, refusal_line}
 use Rattle.sheet.proofs.Chains.{tabbed_length}
 use Rattle.close.specs.declared.outcome.file.YearRow.{YearRow}
-use Rattle.sheet.specs.SheetTexts.{row_text, rows_text, Holds}
-
--- ---- nothing put
-pub put_none : (w : List ℕ) (a : ℕ) → a ≤ length w → Put w w a a []
-put_none w a h = record {
-  room = omega arith;
-  place = omega arith;
-  bytes = sym (written_fits w a [] (omega arith) ∙ (let q : a + 0 ≡ a = omega arith in rw q (take-append-drop a w)));
-}
+use Rattle.sheet.specs.SheetTexts.{row_text, rows_text}
 
 -- ---- how long a line is
-level_length : (al f n k : ℕ) → al < 2 ^ 64 → f < 2 ^ 64 → n < 2 ^ 64 → k < 2 ^ 64 → length (level_text al f n k) ≤ 86
+pub level_length : (al f n k : ℕ) → al < 2 ^ 64 → f < 2 ^ 64 → n < 2 ^ 64 → k < 2 ^ 64 → length (level_text al f n k) ≤ 86
 unfolding level_text
 level_length al f n k a b c d =
     simp length-append (omega (arith, tabbed_length al a, tabbed_length f b, tabbed_length n c, tabbed_length k d))
 
-pub level_put : {w v : List ℕ} {a r al f n k : ℕ} → Put w v a r (level_text al f n k) → al < 2 ^ 64 → f < 2 ^ 64 → n < 2 ^ 64 → k < 2 ^ 64 → r ≤ a + 86
-level_put {al = al} {f = f} {n = n} {k = k} p x y z u = omega (arith, p.place, level_length al f n k x y z u)
+pub refusal_length : (n k : ℕ) → n < 2 ^ 64 → k < 2 ^ 64 → length (refusal_line n k) ≤ 44
+unfolding refusal_line
+refusal_length n k a b = simp length-append (omega (arith, tabbed_length n a, tabbed_length k b))
 
 year_length : (y c k : ℕ) → y < 2 ^ 64 → k < 2 ^ 64 → length (year_text y c k) ≤ 46
 unfolding year_text
@@ -73,9 +64,9 @@ pub rows_next : (ys : List YearRow) (i : ℕ) (d : YearRow) → i < length ys �
 unfolding rows_text
 rows_next ys i d h = rw (add-one i, take-suc ys i d h, map_one (take i ys) (get_or ys i d)) (flat_one (map row_text (take i ys)) (row_text (get_or ys i d)))
 
+pub rows_more : (ys : List YearRow) (i : ℕ) (d : YearRow) → i < length ys → length (rows_text (take i ys)) ≤ 46 * i → length (row_text (get_or ys i d)) ≤ 46
+    → length (rows_text (take (i + 1) ys)) ≤ 46 * (i + 1)
+rows_more ys i d h a b = rw (rows_next ys i d h) (omega (arith, a, b, length-append (rows_text (take i ys)) (row_text (get_or ys i d))))
+
 pub rows_all : (ys : List YearRow) (i : ℕ) → length ys ≤ i → rows_text (take i ys) ≡ rows_text ys
 rows_all ys i h = ap rows_text (take_all i ys h)
-
--- ---- what stands at the start
-pub put_first : (w v : List ℕ) (r : ℕ) (s : List ℕ) → Put w v 0 r s → Holds (record { bytes = v; length = r }) s
-put_first w v r s p = record { length = omega (arith, p.place); bytes = rw (p.place, p.bytes) (take_written w 0 s p.room) }

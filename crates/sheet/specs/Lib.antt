@@ -1,2 +1,2 @@
 pub mod SheetTexts
-pub mod Put
+pub mod Adds

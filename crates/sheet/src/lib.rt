@@ -1,15 +1,14 @@
 // The text of a sheet (document 01, The printed sheet): at most 86 bytes of its N line and 46 of each Y line.
 #![tactic(auto)]
 
+mod parts; // a byte, and a tabbed number
 mod refusal_line; // the line Z of a refusal
 mod report_lines; // the lines N and Y of a report
 
-ghost use Rattle.std.specs.Prelude.{◌+◌, ◌≤◌, length};
-ghost use Rattle.sheet.specs.Put.{Put};
+ghost use Rattle.std.specs.Prelude.{◌≤◌, length};
+ghost use Rattle.sheet.specs.Adds.{Adds};
 ghost use Rattle.sheet.specs.SheetTexts.{row_text, rows_text, sheet_text, Holds};
 
-use crate::refusal_line::put_refusal;
-use crate::report_lines::{put_level, put_year};
 use answers::Answer;
 use close::YearRow;
 
@@ -20,45 +19,42 @@ pub struct Printed {
     pub length: usize,
 }
 
-fn put_row(year: YearRow, out: &mut [u8], at: usize) -> usize
-    requires { at + 46 ≤ length out.old }
-    ensures { Put out.old out.new at result (row_text year) × (result ≤ at + 46) }
-{
-    if year.year == 0 {
-        return at;
+impl Printed {
+    // A year that the file does not have has no line.
+    fn put_row(&mut self, year: YearRow)
+        ensures row { Adds self.old self.new (row_text year) }
+        ensures short { length (row_text year) ≤ 46 }
+    {
+        if year.year != 0 {
+            self.put_year(year.year, year.case, year.present);
+        }
     }
-    put_year(year.year, year.case, year.present, out, at)
-}
 
-fn put_rows(years: [YearRow; 10], out: &mut [u8], at: usize) -> usize
-    requires { at + 460 ≤ length out.old }
-    ensures { Put out.old out.new at result (rows_text years) }
-{
-    let mut a = at;
-    let mut i = 0;
-    while i < 10 {
-        let year = years[i];
-        a = put_row(year, out, a);
-        i += 1;
+    fn put_rows(&mut self, years: [YearRow; 10])
+        ensures rows { Adds self.old self.new (rows_text years) }
+        ensures short { length (rows_text years) ≤ 460 }
+    {
+        for year in years {
+            self.put_row(year);
+        }
     }
-    a
-}
 
-fn put_sheet(answer: Answer, years: [YearRow; 10], out: &mut [u8]) -> usize
-    requires { 546 ≤ length out.old }
-    ensures { Put out.old out.new 0 result (sheet_text answer years) }
-{
-    match answer {
-        Answer::Accepted => put_refusal(0, 0, out, 0),
-        Answer::Refused { number, count } => put_refusal(number, count, out, 0),
-        Answer::Reported {
-            al,
-            filiere,
-            level,
-            points,
-        } => {
-            let a = put_level(al, filiere, level, points, out, 0);
-            put_rows(years, out, a)
+    fn put_sheet(&mut self, answer: Answer, years: [YearRow; 10])
+        ensures sheet { Adds self.old self.new (sheet_text answer years) }
+        ensures short { length (sheet_text answer years) ≤ 546 }
+    {
+        match answer {
+            Answer::Accepted => self.put_refusal(0, 0),
+            Answer::Refused { number, count } => self.put_refusal(number, count),
+            Answer::Reported {
+                al,
+                filiere,
+                level,
+                points,
+            } => {
+                self.put_level(al, filiere, level, points);
+                self.put_rows(years);
+            }
         }
     }
 }
@@ -66,7 +62,10 @@ fn put_sheet(answer: Answer, years: [YearRow; 10], out: &mut [u8]) -> usize
 pub fn text(answer: Answer, years: [YearRow; 10]) -> Printed
     ensures { Holds result (sheet_text answer years) }
 {
-    let mut bytes = [0u8; 546];
-    let length = put_sheet(answer, years, &mut bytes);
-    Printed { bytes, length }
+    let mut printed = Printed {
+        bytes: [0u8; 546],
+        length: 0,
+    };
+    printed.put_sheet(answer, years);
+    printed
 }

@@ -1,7 +1,6 @@
 // Writes the name and the sheet of each filing that its arguments name.
 #![tactic(auto)]
 
-use file_run::End;
 use std::env::{Env, FillError};
 use std::fs::File;
 use std::{io, str};
@@ -12,13 +11,10 @@ fn sheet_of(rt: &HostRuntime, name: &str) -> io::Result<()> {
     let Ok(mut file) = File::open(rt, name) else {
         return eprintln!(rt; "{name}: cannot be opened");
     };
-    let r = file_run::run(&mut file);
-    let end = r.end;
-    if let End::Failure = end {
+    let Ok(filed) = file_run::run(&mut file) else {
         return eprintln!(rt; "{name}: cannot be read");
-    }
-    let printed = r.printed;
-    if !file_run::write(&mut rt.stdout(), printed) {
+    };
+    if file_run::write(&mut rt.stdout(), filed.printed).is_err() {
         return eprintln!(rt; "{name}: its sheet cannot be written");
     }
     Ok(())

@@ -1,8 +1,5 @@
 // What opening, line and close answer to a case.
-use crate::held::{
-    curve_size, daily_of, daily_size, far_of, far_size, list_of, near_of, near_size, slots_of,
-    slots_size,
-};
+use crate::held::{daily_of, far_of, list_of, near_of, sizes_of, slots_of};
 use crate::records::record_of;
 use crate::{Base, Forge};
 use answers::Answer;
@@ -15,23 +12,18 @@ pub(crate) fn line_answer(base: Base, forge: Forge, line: &[u8]) -> Answer {
     let mut slots = slots_of(forge);
     let mut daily = daily_of(forge);
     let curve = [0u64; 4401];
-    let n = near_size(forge);
-    let f = far_size(forge);
-    let s = slots_size(forge);
-    let d = daily_size(forge);
-    let c = curve_size(forge);
+    let sizes = sizes_of(forge);
     let result = line_own(
         record_of(base, forge, 1),
         line,
-        &mut near[..n],
-        &mut far[..f],
-        &mut slots[..s],
-        &mut daily[..d],
+        &mut near[..sizes.near],
+        &mut far[..sizes.far],
+        &mut slots[..sizes.slots],
+        &mut daily[..sizes.daily],
         list_of(forge),
-        &curve[..c],
+        &curve[..sizes.curve],
     );
-    let call = result.call;
-    call.answer
+    result.call.answer
 }
 
 pub(crate) fn close_answer(base: Base, forge: Forge) -> Answer {
@@ -40,19 +32,15 @@ pub(crate) fn close_answer(base: Base, forge: Forge) -> Answer {
     let slots = slots_of(forge);
     let daily = daily_of(forge);
     let mut curve = [0u64; 4401];
-    let n = near_size(forge);
-    let f = far_size(forge);
-    let s = slots_size(forge);
-    let d = daily_size(forge);
-    let c = curve_size(forge);
+    let sizes = sizes_of(forge);
     let result = close_own(
         record_of(base, forge, END_TAG),
-        &near[..n],
-        &far[..f],
-        &slots[..s],
-        &daily[..d],
+        &near[..sizes.near],
+        &far[..sizes.far],
+        &slots[..sizes.slots],
+        &daily[..sizes.daily],
         list_of(forge),
-        &mut curve[..c],
+        &mut curve[..sizes.curve],
     );
     result.answer
 }
@@ -63,20 +51,15 @@ pub(crate) fn open_answer(forge: Forge) -> Answer {
     let mut slots = slots_of(forge);
     let mut daily = daily_of(forge);
     let mut curve = [0u64; 4401];
-    let n = near_size(forge);
-    let f = far_size(forge);
-    let s = slots_size(forge);
-    let d = daily_size(forge);
-    let c = curve_size(forge);
+    let sizes = sizes_of(forge);
     let result = open_own(
         record_of(Base::Wind, forge, END_TAG),
-        &mut near[..n],
-        &mut far[..f],
-        &mut slots[..s],
-        &mut daily[..d],
+        &mut near[..sizes.near],
+        &mut far[..sizes.far],
+        &mut slots[..sizes.slots],
+        &mut daily[..sizes.daily],
         list_of(forge),
-        &mut curve[..c],
+        &mut curve[..sizes.curve],
     );
-    let call = result.call;
-    call.answer
+    result.call.answer
 }

@@ -6,62 +6,46 @@ use crate::{Base, Forge};
 use blocks::NO_POINT;
 use readings::{Kind, Reading};
 
-// A place of the last near row: missing on 29 February, else 1,000,000 W.
-fn point_at(i: usize) -> u32 {
-    if i < 13_340 || 13_360 <= i {
-        return 1_000_000;
+// Forges a place of a block, where the block has it.
+pub(crate) fn set_at<T: Copy>(block: &mut [T], i: usize, value: T) {
+    if i < block.len() {
+        block[i] = value;
     }
-    NO_POINT
 }
 
-// Points on every day of AL-5, the last near year.
-fn one_year() -> [u32; 15201] {
-    let mut near = [NO_POINT; 15201];
-    for i in 12_160..15_200 {
-        near[i] = point_at(i);
-    }
-    near
-}
-
+// Points of 1,000,000 W on every day of AL-5, the last near year, but 29 February.
 pub(crate) fn near_of(base: Base, forge: Forge) -> [u32; 15201] {
     let mut near = [NO_POINT; 15201];
     if !is_before_s(base) {
-        near = one_year();
+        near[12_160..15_200].fill(1_000_000);
+        near[13_340..13_360].fill(NO_POINT);
     }
-    if let Forge::Near(i, v) = forge {
-        if i < 15_201 {
-            near[i] = v;
-        }
+    if let Forge::Near(i, watts) = forge {
+        set_at(&mut near, i, watts);
     }
     near
 }
 
 pub(crate) fn far_of(forge: Forge) -> [u32; 15201] {
     let mut far = [NO_POINT; 15201];
-    if let Forge::Far(i, v) = forge {
-        if i < 15_201 {
-            far[i] = v;
-        }
+    if let Forge::Far(i, watts) = forge {
+        set_at(&mut far, i, watts);
     }
     far
 }
 
 pub(crate) fn slots_of(forge: Forge) -> [u16; 30401] {
     let mut slots = [0u16; 30401];
-    if let Forge::Slot(i, v) = forge {
-        if i < 30_401 {
-            slots[i] = v;
-        }
+    if let Forge::Slot(i, value) = forge {
+        set_at(&mut slots, i, value);
     }
     slots
 }
 
 pub(crate) fn daily_of(forge: Forge) -> [u32; 4393] {
     let mut daily = [0u32; 4393];
-    if let Forge::Sum(i, v) = forge {
-        if i < 4_393 {
-            daily[i] = v;
-        }
+    if let Forge::Sum(i, value) = forge {
+        set_at(&mut daily, i, value);
     }
     daily
 }
@@ -78,18 +62,8 @@ fn reading(position: u32, count: u64) -> Reading {
 // The reading at a place of the list: one every second day, so that none is on 29 February.
 fn reading_at(i: usize, place: u32, forge: Forge) -> Reading {
     match forge {
-        Forge::Position(k, p) => {
-            if i == k {
-                return reading(p, 0);
-            }
-            reading(place, 0)
-        }
-        Forge::Index(k, n) => {
-            if i == k {
-                return reading(place, n);
-            }
-            reading(place, 0)
-        }
+        Forge::Position(k, p) if k == i => reading(p, 0),
+        Forge::Index(k, n) if k == i => reading(place, n),
         Forge::Uncounted(p) => reading(p, 0),
         _ => reading(place, 0),
     }
@@ -97,65 +71,55 @@ fn reading_at(i: usize, place: u32, forge: Forge) -> Reading {
 
 pub(crate) fn list_of(forge: Forge) -> [Reading; 600] {
     let mut list = [reading(0, 0); 600];
-    let mut place = 0;
     for i in 0..600 {
-        list[i] = reading_at(i, place, forge);
-        place += 2;
+        list[i] = reading_at(i, 2 * i as u32, forge);
     }
     list
 }
 
-fn at_most(n: usize, most: usize) -> usize
-    ensures { result ≤ most }
-{
-    if most < n {
-        return most;
-    }
-    n
-}
-
 // How many places of each block are lent.
-pub(crate) fn near_size(forge: Forge) -> usize
-    ensures { result ≤ 15201 }
-{
-    match forge {
-        Forge::NearSize(n) => at_most(n, 15_201),
-        _ => 15_200,
-    }
+#[derive(Clone, Copy)]
+pub(crate) struct Sizes {
+    pub near: usize,
+    pub far: usize,
+    pub slots: usize,
+    pub daily: usize,
+    pub curve: usize,
 }
 
-pub(crate) fn far_size(forge: Forge) -> usize
-    ensures { result ≤ 15201 }
+pub(crate) fn sizes_of(forge: Forge) -> Sizes
+    ensures points { (result.near ≤ 15201) × (result.far ≤ 15201) }
+    ensures profiles { (result.slots ≤ 30401) × (result.daily ≤ 4393) }
+    ensures curve { result.curve ≤ 4401 }
 {
+    let own = Sizes {
+        near: 15_200,
+        far: 15_200,
+        slots: 30_400,
+        daily: 4_392,
+        curve: 4_400,
+    };
     match forge {
-        Forge::FarSize(n) => at_most(n, 15_201),
-        _ => 15_200,
-    }
-}
-
-pub(crate) fn slots_size(forge: Forge) -> usize
-    ensures { result ≤ 30401 }
-{
-    match forge {
-        Forge::SlotsSize(n) => at_most(n, 30_401),
-        _ => 30_400,
-    }
-}
-
-pub(crate) fn daily_size(forge: Forge) -> usize
-    ensures { result ≤ 4393 }
-{
-    match forge {
-        Forge::DailySize(n) => at_most(n, 4_393),
-        _ => 4_392,
-    }
-}
-
-pub(crate) fn curve_size(forge: Forge) -> usize
-    ensures { result ≤ 4401 }
-{
-    match forge {
-        Forge::CurveSize(n) => at_most(n, 4_401),
-        _ => 4_400,
+        Forge::NearSize(n) => Sizes {
+            near: n.min(15_201),
+            ..own
+        },
+        Forge::FarSize(n) => Sizes {
+            far: n.min(15_201),
+            ..own
+        },
+        Forge::SlotsSize(n) => Sizes {
+            slots: n.min(30_401),
+            ..own
+        },
+        Forge::DailySize(n) => Sizes {
+            daily: n.min(4_393),
+            ..own
+        },
+        Forge::CurveSize(n) => Sizes {
+            curve: n.min(4_401),
+            ..own
+        },
+        _ => own,
     }
 }

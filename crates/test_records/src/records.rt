@@ -1,14 +1,12 @@
 // The record of a case, with what is forged in it.
+use crate::held::set_at;
 use crate::{Base, Forge};
 use line_form::{Meter, NO_TAG, Site};
 use progress::{LastDates, Progress, State, Tallies};
 use record_calls::Record;
 
 pub(crate) fn is_before_s(base: Base) -> bool {
-    match base {
-        Base::BeforeS | Base::MeterBeforeS => true,
-        _ => false,
-    }
+    matches!(base, Base::BeforeS | Base::MeterBeforeS)
 }
 
 fn meter_of(base: Base) -> Meter {
@@ -48,10 +46,10 @@ fn base_site(base: Base) -> Site {
 fn site_of(base: Base, forge: Forge) -> Site {
     let old = base_site(base);
     match forge {
-        Forge::Al(n) => site(n, old.filiere, meter_of(base), old.ps),
-        Forge::Filiere(n) => site(old.al, n, meter_of(base), old.ps),
-        Forge::Both(al, n) => site(al, n, meter_of(base), old.ps),
-        Forge::Ps(n) => site(old.al, old.filiere, meter_of(base), n),
+        Forge::Al(al) => Site { al, ..old },
+        Forge::Filiere(filiere) => Site { filiere, ..old },
+        Forge::Both(al, filiere) => Site { al, filiere, ..old },
+        Forge::Ps(ps) => Site { ps, ..old },
         _ => old,
     }
 }
@@ -77,33 +75,17 @@ fn last_dates_of(forge: Forge) -> LastDates {
     lasts
 }
 
-// 0 for every year but one.
-fn by_year(k: usize, n: u64) -> [u64; 10] {
-    let mut years = [0u64; 10];
-    if k < 10 {
-        years[k] = n;
-    }
-    years
-}
-
-fn by_axis_year(k: usize, n: u64) -> [u64; 12] {
-    let mut years = [0u64; 12];
-    if k < 12 {
-        years[k] = n;
-    }
-    years
-}
-
+// Numbers by year are 0 but for the one that is forged.
 fn tallies_of(forge: Forge) -> Tallies {
     let mut profile_dates = [0u64; 10];
     let mut daily_dates = [0u64; 12];
     let mut breaks = [0u64; 10];
     let mut rates = [0u64; 10];
     match forge {
-        Forge::ProfileDates(k, n) => profile_dates = by_year(k, n),
-        Forge::DailyDates(k, n) => daily_dates = by_axis_year(k, n),
-        Forge::Break(k, n) => breaks = by_year(k, n),
-        Forge::Rate(k, n) => rates = by_year(k, n),
+        Forge::ProfileDates(k, n) => set_at(&mut profile_dates, k, n),
+        Forge::DailyDates(k, n) => set_at(&mut daily_dates, k, n),
+        Forge::Break(k, n) => set_at(&mut breaks, k, n),
+        Forge::Rate(k, n) => set_at(&mut rates, k, n),
         _ => {}
     }
     Tallies {
@@ -151,20 +133,16 @@ fn count_of(base: Base, forge: Forge) -> u64 {
 
 // The record with the last tag that its call needs.
 pub(crate) fn record_of(base: Base, forge: Forge, last: u64) -> Record {
-    let state = state_of(base);
-    let site = site_of(base, forge);
-    let lasts = last_dates_of(forge);
-    let tallies = tallies_of(forge);
     let progress = Progress {
         last: last_tag_of(base, forge, last),
-        site,
+        site: site_of(base, forge),
         readings: readings_of(forge),
         last_index: last_index_of(forge),
-        lasts,
-        tallies,
+        lasts: last_dates_of(forge),
+        tallies: tallies_of(forge),
     };
     Record {
-        state,
+        state: state_of(base),
         count: count_of(base, forge),
         progress,
     }

@@ -8,13 +8,8 @@ use std::io;
 fn put_answer(rt: &impl Print, answer: Answer) -> io::Result<()> {
     match answer {
         Answer::Accepted => print!(rt; "\taccepted"),
-        Answer::Refused { number, count: _ } => print!(rt; "\t{number}"),
-        Answer::Reported {
-            al: _,
-            filiere: _,
-            level: _,
-            points: _,
-        } => print!(rt; "\treported"),
+        Answer::Refused { number, .. } => print!(rt; "\t{number}"),
+        Answer::Reported { .. } => print!(rt; "\treported"),
     }
 }
 

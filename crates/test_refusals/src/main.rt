@@ -3,7 +3,7 @@
 // A line = ends a case, and a line ~ is passed on with a near block of another size.
 #![tactic(auto)]
 
-ghost use Rattle.std.specs.Prelude.{◌≤◌, length, IfOk};
+ghost use Rattle.std.specs.Prelude.{◌≤◌, ◌<◌, length, IfOk, IfSome};
 
 use answers::Answer;
 use blocks::NO_POINT;
@@ -13,14 +13,27 @@ use record_calls::Record;
 use std::io;
 use std::io::Read;
 
-// A record with its readings, and what is to be written: nothing (0), a refusal (1) or a case's end (2).
+// What is to be written of a step: nothing, a refusal, or a case's end after so many lines.
+#[derive(Clone, Copy)]
+enum Said {
+    Nothing,
+    Refusal { number: u64, count: u64 },
+    CaseEnd { count: u64 },
+}
+
+// A record with its readings, and what is to be written.
 #[derive(Clone, Copy)]
 struct Stepped {
     record: Record,
     readings: [Reading; 600],
-    say: u64,
-    number: u64,
-    count: u64,
+    said: Said,
+}
+
+// The first byte 10 of a text. A function of its own: the search for it is proved where it is what the function returns.
+fn first_end(text: &[u8]) -> Option<usize>
+    ensures { IfSome result (λ e. e < length text.now) }
+{
+    text.iter().position(|byte| *byte == b'\n')
 }
 
 // Where the line that starts at `at` ends: its byte 10, or the end.
@@ -28,76 +41,30 @@ fn line_end(text: &[u8], at: usize) -> usize
     requires { at ≤ length text.now }
     ensures { (at ≤ result) × (result ≤ length text.now) }
 {
-    let mut e = at;
-    while e < text.len() {
-        if text[e] == b'\n' {
-            return e;
-        }
-        e += 1;
+    match first_end(&text[at..]) {
+        Some(bytes) => at + bytes,
+        None => text.len(),
     }
-    text.len()
 }
 
 fn is_sign(line: &[u8], sign: u8) -> bool {
-    if line.len() != 1 {
-        return false;
-    }
-    line[0] == sign
+    line.len() == 1 && line[0] == sign
 }
 
-// What is written of an answer, with its number and count.
-#[derive(Clone, Copy)]
-struct Said {
-    say: u64,
-    number: u64,
-    count: u64,
-}
-
+// What is written of an answer; no close is called, so none is reported.
 fn said_of(answer: Answer) -> Said {
     match answer {
-        Answer::Accepted => Said {
-            say: 0,
-            number: 0,
-            count: 0,
-        },
-        Answer::Refused { number, count } => Said {
-            say: 1,
-            number,
-            count,
-        },
-        // no close is called
-        Answer::Reported {
-            al: _,
-            filiere: _,
-            level: _,
-            points: _,
-        } => Said {
-            say: 0,
-            number: 0,
-            count: 0,
-        },
+        Answer::Refused { number, count } => Said::Refusal { number, count },
+        Answer::Accepted | Answer::Reported { .. } => Said::Nothing,
     }
 }
 
 fn step_of(res: OwnResult, said: Said) -> Stepped {
-    let call = res.call;
     let readings = res.readings;
-    let record = call.record;
     Stepped {
-        record,
+        record: res.call.record,
         readings,
-        say: said.say,
-        number: said.number,
-        count: said.count,
-    }
-}
-
-// The end of a case, after so many lines.
-fn case_end(count: u64) -> Said {
-    Said {
-        say: 2,
-        number: 0,
-        count,
+        said,
     }
 }
 
@@ -105,10 +72,7 @@ fn case_end(count: u64) -> Said {
 fn lent(line: &[u8], size: usize) -> usize
     ensures { result ≤ size }
 {
-    if is_sign(line, b'~') {
-        return 0;
-    }
-    size
+    if is_sign(line, b'~') { 0 } else { size }
 }
 
 // Applies a line to the record. At a case's end the blocks are made fresh for the next one.
@@ -125,7 +89,7 @@ fn step(
     if is_sign(line, b'=') {
         let count = record.count;
         let fresh = open_own(record, near, far, slots, daily, readings, curve);
-        return step_of(fresh, case_end(count));
+        return step_of(fresh, Said::CaseEnd { count });
     }
     let size = lent(line, near.len());
     let result = line_own(
@@ -138,21 +102,15 @@ fn step(
         readings,
         curve,
     );
-    let call = result.call;
-    let answer = call.answer;
-    step_of(result, said_of(answer))
+    step_of(result, said_of(result.call.answer))
 }
 
-fn write_step(rt: &impl Print, say: u64, number: u64, count: u64) -> io::Result<()> {
-    if say == 0 {
-        return Ok(());
+fn write_step(rt: &impl Print, said: Said) -> io::Result<()> {
+    match said {
+        Said::Nothing => Ok(()),
+        Said::Refusal { number, count } => println!(rt; "{number}\t{count}"),
+        Said::CaseEnd { count } => println!(rt; "=\t{count}"),
     }
-    if say == 1 {
-        print!(rt; "{number}")?;
-    } else {
-        print!(rt; "=")?;
-    }
-    println!(rt; "\t{count}")
 }
 
 // Reads until `buf` is full or the input ends, and returns how many bytes it put at the start of `buf`.
@@ -184,14 +142,12 @@ fn main(rt: HostRuntime) -> io::Result<()> {
     while at < n {
         let e = line_end(&text, at);
         let line = &text[at..e];
-        let r = step(
+        let next = step(
             record, readings, line, &mut near, &mut far, &mut slots, &mut daily, &mut curve,
         );
-        write_step(&rt, r.say, r.number, r.count)?;
-        let next = r.record;
-        let result = r.readings;
-        record = next;
-        readings = result;
+        write_step(&rt, next.said)?;
+        record = next.record;
+        readings = next.readings;
         at = e + 1;
     }
     Ok(())

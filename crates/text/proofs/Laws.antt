@@ -11,10 +11,14 @@ use lib.ListN.{length, take, drop, get_or, drop_of_length-le, length-take, lengt
 use lib.Seq.{drop-cons, take-length, take-suc}
 use borrow.Author.Tests.{eq-eqb, ne_eqb, eqb-true, eqb-false, leb-true, leb-false}
 use Rattle.text.specs.Numbers.{is_digit, is_number, value_of, most}
+use Rattle.std.specs.Prelude.{Option, Some, None}
+use Rattle.std.specs.Cmp.Lexicographic.{pointwise}
+use Rattle.std.proofs.lemmas.List.{get_or-take}
+use Rattle.std.proofs.lemmas.List.Folds.{list_any_at}
+use Rattle.lists.proofs.Chains.{any_listed}
 use Rattle.lists.specs.Lists.{any, Each, each_nil, each_cons}
 use Rattle.lists.proofs.Laws.{any_snoc}
 use Rattle.lists.proofs.Reflect.{of_eq, of_and}
-use Rattle.lists.proofs.Tests.{same, is_true}
 use Rattle.text.specs.Fields.{is_invalid, up_to, past, tab_at, tabs, rest_at, field_at, reads}
 use Rattle.text.specs.NumberFields.{number_field_of}
 use Rattle.text.specs.declared.NumberField.{NumberField}
@@ -93,16 +97,62 @@ number_on s i b c v h p q e =
     let n : length (take i s) ≡ i = simp length-take (omega arith) in
     e ∙ rw (p, q, eqb_capped most (value_of (take i s)) 0 (omega arith), add-one i, take-suc s i 0 h, number_snoc (take i s) (get_or s i 0), n)
 
+-- the same, by whether a digit may follow the first i bytes
+pub number_next : (s : List ℕ) (i : ℕ) (b c o : Bool) (v : ℕ) → i < length s → b ≡ is_number (take i s) → v ≡ min (value_of (take i s)) most
+    → o ≡ (eqb i 0 || (not (eqb v 0) && b)) → c ≡ (is_digit (get_or s i 0) && o) → c ≡ is_number (take (i + 1) s)
+number_next s i b c o v h p q f e = number_on s i b c v h p q (rw f at e)
+
 pub value_on : (s : List ℕ) (i v w : ℕ) → i < length s → v ≡ min (value_of (take i s)) most → w ≡ min (v * 10 + (get_or s i 0 - 48)) most → w ≡ min (value_of (take (i + 1) s)) most
 value_on s i v w h q e = e ∙ rw (add-one i, take-suc s i 0 h, value_snoc (take i s) (get_or s i 0)) (omega arith)
 
-pub invalid_on : (s : List ℕ) (i : ℕ) (b c : Bool) → i < length s → b ≡ any is_invalid (take i s) → c ≡ (b || is_invalid (get_or s i 0)) → c ≡ any is_invalid (take (i + 1) s)
-invalid_on s i b c h p e = e ∙ rw (p, add-one i, take-suc s i 0 h, any_snoc is_invalid (take i s) (get_or s i 0))
+pub valid_on : (s : List ℕ) (i : ℕ) → i < length s → any is_invalid (take i s) ≡ false → is_invalid (get_or s i 0) ≡ false → any is_invalid (take (i + 1) s) ≡ false
+valid_on s i h p e = rw (add-one i, take-suc s i 0 h, any_snoc is_invalid (take i s) (get_or s i 0), p, e)
 
-pub numbered : (s : List ℕ) (i : ℕ) (a b : Bool) (v : ℕ) → i ≡ tab_at s → a ≡ any is_invalid (take i s) → b ≡ is_number (take i s) → v ≡ min (value_of (take i s)) most
-    → ◌≡◌ {A = NumberField} (record { length = i; invalid = a; formed = b; value = v }) (number_field_of s)
+-- a byte before the tab is one of the first field
+pub invalid_here : (s : List ℕ) (i : ℕ) → i < length s → tab_at s ≡ i + tab_at (drop i s) → (get_or s i 0 ≡ 9 → ⊥) → is_invalid (get_or s i 0) ≡ true → None ≡ number_field_of s
 unfolding number_field_of
-numbered s i a b v e g p q = rw (g, p, q, first_of s i e, e)
+invalid_here s i h t n e =
+    let f = take (tab_at s) s in
+    let on : i < tab_at s = omega (arith, tab_on s i h n) in
+    let k : i < length f = simp length-take (omega arith) in
+    let x : is_invalid (get_or f i 0) ≡ true = rw (get_or-take (tab_at s) s i 0 on) e in
+    rw (up_take s, sym (any_listed is_invalid f), list_any_at is_invalid f i 0 k x)
+
+pub numbered : (s : List ℕ) (i n : ℕ) (b : Bool) (v : ℕ) → n ≡ i → i ≡ tab_at s → any is_invalid (take i s) ≡ false → b ≡ is_number (take i s) → v ≡ min (value_of (take i s)) most
+    → ◌≡◌ {A = Option NumberField} (Some (record { length = n; formed = b; value = v })) (number_field_of s)
+unfolding number_field_of
+numbered s i n b v h e g p q =
+    let f : take i s ≡ up_to s = first_of s i e in
+    rw (h, p, q, f, e, rw f at g)
+
+-- what the proof of the loop needs
+pub ruleset number_steps = (tab_here, tab_on, tab_end, valid_on, number_next, value_on, invalid_here, numbered)
+
+-- what the result says of the first field
+pub record FieldRead (n : NumberField) (s : List ℕ) : Type 0 where
+  pub valid : any is_invalid (up_to s) ≡ false
+  pub length_is : n.length ≡ tab_at s
+  pub formed_is : n.formed ≡ is_number (up_to s)
+  pub value_is : n.value ≡ min (value_of (up_to s)) most
+
+pub some_read : (s : List ℕ) (n : NumberField) → Some n ≡ number_field_of s → FieldRead n s
+unfolding number_field_of
+some_read s n e = go (any is_invalid (up_to s)) refl e
+  where
+    whole : NumberField
+    whole = record { length = tab_at s; formed = is_number (up_to s); value = min (value_of (up_to s)) most }
+
+    go : (b : Bool) → any is_invalid (up_to s) ≡ b → ◌≡◌ {A = Option NumberField} (Some n) (cond b None (Some whole)) → FieldRead n s
+    go true q r = absurd (cc)
+    go false q r = let k : n ≡ whole = cc in rw k (record { valid = q; length_is = refl; formed_is = refl; value_is = refl })
+
+pub none_read : (s : List ℕ) → ◌≡◌ {A = Option NumberField} None (number_field_of s) → any is_invalid (up_to s) ≡ true
+unfolding number_field_of
+none_read s e = go (any is_invalid (up_to s)) refl e
+  where
+    go : (b : Bool) → any is_invalid (up_to s) ≡ b → ◌≡◌ {A = Option NumberField} None (cond b None (Some (record { length = tab_at s; formed = is_number (up_to s); value = min (value_of (up_to s)) most }))) → b ≡ true
+    go true q r = refl
+    go false q r = absurd (cc)
 
 -- ---- fields in words
 -- no byte of a field is a tab
@@ -174,6 +224,10 @@ of_reads (x ∷ f) (y ∷ t) = both (of_and (eqb x y) (reads f t) (of_eq x y) (o
     both : T (eqb x y && reads f t) ↔ ((x ≡ y) × (f ≡ t)) → T (eqb x y && reads f t) ↔ (◌≡◌ {A = List ℕ} (x ∷ f) (y ∷ t))
     both r = (λ h. let p : x ≡ y = (r.0 h).0 in let q : f ≡ t = (r.0 h).1 in cc, λ e. let p : x ≡ y = cc in let q : f ≡ t = cc in r.1 (p, q))
 
--- a result that is true just where two texts are the same
-pub reads_same : (r : Bool) (f t : List ℕ) → (r ≡ true → f ≡ t) → (f ≡ t → r ≡ true) → r ≡ reads f t
-reads_same r f t to fro = same r (reads f t) (λ h. (of_reads f t).1 (to (is_true r h))) (λ h. rw (fro ((of_reads f t).0 h)) tt)
+-- two texts compared byte by byte
+pub reads_lem : (f t : List ℕ) → reads f t ≡ pointwise eqb f t
+unfolding reads
+reads_lem [] [] = refl
+reads_lem [] (y ∷ t) = refl
+reads_lem (x ∷ f) [] = refl
+reads_lem (x ∷ f) (y ∷ t) = ap (λ b. eqb x y && b) (reads_lem f t)

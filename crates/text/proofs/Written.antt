@@ -1,13 +1,12 @@
 -- Laws of text put into bytes.
 use mathlib.Core.Path.{◌≡◌, refl, ap, sym, ◌∙◌}
 use mathlib.Core.Bool.{Bool, true, false}
-use mathlib.Core.List.{List, [], ◌∷◌, ◌++◌, append_assoc}
+use mathlib.Core.List.{List, ◌++◌, append_assoc}
 use Prim.Native.Nat.{ℕ, ◌+◌, ◌≤◌, ◌<◌}
-use native.Mathlib.Numerals.{add-one}
 use native.Mathlib.Omega.{arith}
 use lib.Dec.{leb}
-use lib.ListN.{length, take, drop, set, length-append, length-take, length-drop}
-use lib.Seq.{paste, take_all, set_split, take_at, drop_at, drop-drop}
+use lib.ListN.{length, take, drop, length-append, length-take, length-drop}
+use lib.Seq.{take_at, drop_at, drop-drop}
 use borrow.Author.Tests.{le-leb, lt-leb, leb-true, leb-false}
 use Rattle.text.specs.Written.{written, place_after}
 
@@ -23,19 +22,6 @@ module _ (w : List ℕ) (a : ℕ) (s : List ℕ) where
   pub place_fits : a + length s ≤ length w → place_after w a s ≡ a + length s
   unfolding place_after
   place_fits h = simp (le-leb _ _ h)
-
-  pub place_out : length w < a + length s → place_after w a s ≡ a
-  unfolding place_after
-  place_out h = simp (lt-leb _ _ h)
-
--- a byte stored, and a text stored byte by byte
-pub written_byte : (w : List ℕ) (a b : ℕ) → a < length w → set w a b ≡ written w a (b ∷ [])
-written_byte w a b h = set_split w a b h ∙ sym (written_fits w a (b ∷ []) (omega arith) ∙ rw (add-one a))
-
-pub written_all : (w : List ℕ) (a : ℕ) (s : List ℕ) (k : ℕ) → a + length s ≤ length w → length s ≤ k → k ≤ length s → paste w a s k ≡ written w a s
-written_all w a s k h l u =
-    let e : k ≡ length s = omega arith in
-    rw (e, take_all (length s) s (omega arith)) (append_assoc (take a w) s (drop (a + length s) w) ∙ sym (written_fits w a s h))
 
 -- ---- for callers: the bytes stay as many, and one text after another is both at once
 pub length_written : (w : List ℕ) (a : ℕ) (s : List ℕ) → length (written w a s) ≡ length w

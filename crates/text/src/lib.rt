@@ -7,9 +7,7 @@ mod invalid_bytes; // invalid bytes: other than tab and 32 to 126
 mod number_fields; // the first field as a number, in one walk over its bytes
 mod written_text; // bytes put from a place on, or none of them where they do not fit
 mod written_numbers; // the decimal digits of a number, likewise
-mod bools; // two tests joined
 
-pub use bools::and;
 pub use fields::{field, is_edition, past};
 pub use invalid_bytes::some_invalid;
 pub use number_fields::number;
@@ -18,11 +16,10 @@ pub use written_text::{put_byte, put_text};
 
 pub(crate) const TAB: u8 = b'\t';
 
-// The first field: how many bytes it has, whether one of them is invalid, whether they are a number, and their number, capped at 10^18.
+// The first field: how many bytes it has, whether they are a number, and what they make as digits, capped at 10^18, which is promised of every field.
 #[derive(Clone, Copy)]
 pub struct NumberField {
     pub length: usize,
-    pub invalid: bool,
     pub formed: bool,
     pub value: u64,
 }

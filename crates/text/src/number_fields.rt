@@ -2,31 +2,34 @@
 ghost use Rattle.std.specs.Prelude.{◌≡◌};
 ghost use Rattle.text.specs.NumberFields.{number_field_of};
 
-use crate::invalid_bytes::or_invalid;
+use crate::invalid_bytes::is_invalid;
+use crate::numbers::{capped, digit_value, is_number_with, is_open_number};
 use crate::{NumberField, TAB};
 
-// The first field's end, whether a byte of it is invalid, whether it is a number, and its number, in one walk over its bytes.
-pub fn number(s: &[u8]) -> NumberField
+// The first field's end, whether it is a number, and its number, in one walk over its bytes: None where one of them is invalid.
+#[tactic(auto, using(crate::proofs::Laws::number_steps), unfolding(lists::specs::Lists::any, crate::specs::Numbers::is_number, crate::specs::Numbers::value_of, crate::specs::Numbers::value_from))]
+pub fn number(s: &[u8]) -> Option<NumberField>
     ensures { result ≡ number_field_of s.now }
 {
-    let mut any_invalid = false;
+    let mut length = 0;
     let mut formed = false;
-    let mut value: u64 = 0;
-    let mut i = 0;
-    while i < s.len() {
-        let b = s[i];
+    let mut value = 0;
+    let mut may_follow = true; // whether a digit may come next
+    for &b in s {
         if b == TAB {
             break;
         }
-        any_invalid = or_invalid(any_invalid, b);
-        formed = crate::numbers::is_number_with(i, formed, value, b);
-        value = crate::numbers::capped(value * 10 + crate::numbers::digit_value(b));
-        i += 1;
+        if is_invalid(b) {
+            return None;
+        }
+        formed = is_number_with(may_follow, b);
+        value = capped(value * 10 + digit_value(b));
+        may_follow = is_open_number(formed, value);
+        length += 1;
     }
-    NumberField {
-        length: i,
-        invalid: any_invalid,
+    Some(NumberField {
+        length,
         formed,
         value,
-    }
+    })
 }

@@ -7,44 +7,31 @@ ghost use Rattle.text.specs.Numbers.{is_digit, most};
 // The cap of a number: above every range that a field has.
 const MOST: u64 = 1_000_000_000_000_000_000;
 
-fn digit(b: u8) -> bool
-    ensures { result ≡ is_digit b }
+// Whether bytes and one more make a number: that one is a digit, and one may follow them.
+#[tactic(auto, unfolding(crate::specs::Numbers::is_digit))]
+pub(crate) fn is_number_with(may_follow: bool, b: u8) -> bool
+    ensures { result ≡ (is_digit b && may_follow) }
 {
-    if b < b'0' {
-        return false;
-    }
-    b <= b'9'
+    may_follow && b.is_ascii_digit()
 }
 
-// Whether bytes and one more make a number: that one is a digit, and comes first or after a number other than 0.
-pub(crate) fn is_number_with(length: usize, formed: bool, value: u64, b: u8) -> bool
-    ensures { result ≡ (is_digit b && (eqb length 0 || (not (eqb value 0) && formed))) }
+// Whether a digit may follow bytes that are not none: where they are a number other than 0.
+pub(crate) fn is_open_number(formed: bool, value: u64) -> bool
+    ensures { result ≡ (not (eqb value 0) && formed) }
 {
-    if !digit(b) {
-        return false;
-    }
-    if length == 0 {
-        return true;
-    }
-    if value == 0 {
-        return false;
-    }
-    formed
+    value != 0 && formed
 }
 
 // The value of a digit.
 pub(crate) fn digit_value(b: u8) -> u64
     ensures { result ≡ b - 48 }
 {
-    if b < b'0' {
-        return 0;
-    }
-    (b - b'0') as u64
+    u64::from(b).saturating_sub(48)
 }
 
 // A number capped at 10^18, which stands for all from there on, so that no number wraps.
 pub(crate) fn capped(v: u64) -> u64
     ensures { result ≡ min v most }
 {
-    if v < MOST { v } else { MOST }
+    v.min(MOST)
 }

@@ -1,7 +1,9 @@
-// Text put into lent bytes: from a place on, all of it or, where it does not fit, nothing. Returns the place after it.
+// Text put into lent bytes: from a place on, all of it or, where it does not fit, nothing. Returns the place after it, which is the same place where
+// nothing is put: an Option is no plainer, as a row of texts is put by a chain of calls, each from the place that the one before it returned.
 ghost use Rattle.std.specs.Prelude.{◌≡◌, [], ◌∷◌};
 ghost use Rattle.text.specs.Written.{written, place_after};
 
+#[tactic(auto, unfolding(crate::specs::Written::written, crate::specs::Written::place_after))]
 pub fn put_byte(b: u8, out: &mut [u8], at: usize) -> usize
     ensures value { result ≡ place_after out.old at (b ∷ []) }
     ensures out_after { out.new ≡ written out.old at (b ∷ []) }
@@ -13,21 +15,15 @@ pub fn put_byte(b: u8, out: &mut [u8], at: usize) -> usize
     at + 1
 }
 
+#[tactic(auto, unfolding(crate::specs::Written::written, crate::specs::Written::place_after))]
 pub fn put_text(text: &[u8], out: &mut [u8], at: usize) -> usize
     ensures value { result ≡ place_after out.old at text.now }
     ensures out_after { out.new ≡ written out.old at text.now }
 {
-    if out.len() < at {
+    if out.len() < at || out.len() - at < text.len() {
         return at;
     }
-    if out.len() - at < text.len() {
-        return at;
-    }
-    let mut k = 0;
-    while k < text.len() {
-        let p = at + k;
-        out[p] = text[k];
-        k += 1;
-    }
-    at + k
+    let end = at + text.len();
+    out[at..end].copy_from_slice(text);
+    end
 }

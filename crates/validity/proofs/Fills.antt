@@ -1,5 +1,5 @@
 -- Lists written from the front: one value on a part, and a part for each interval.
-use mathlib.Core.Path.{◌≡◌, refl, ap, sym, ◌∙◌}
+use mathlib.Core.Path.{◌≡◌, refl, ap, sym, subst, ◌∙◌}
 use mathlib.Core.Logic.{◌⊎◌, inl, inr}
 use mathlib.Core.Bool.{Bool, true, false, ◌&&◌, cond}
 use mathlib.Core.List.{List}
@@ -8,16 +8,20 @@ use Prim.Native.Nat.{ℕ, zero, suc, ◌+◌, ◌-◌, ◌≤◌, ◌<◌}
 use native.Mathlib.Nat.{add-zero}
 use native.Mathlib.Omega.{arith}
 use lib.Dec.{eqb, leb, ltb}
-use lib.ListN.{length, get_or, set, length-set}
-use lib.Seq.{ext_get_or, get_or-set_same, get_or-set_other}
+use lib.ListN.{length, get_or, set, length-set, replicate, take, drop}
+use native.Mathlib.Numerals.{add-one}
+use Rattle.std.proofs.lemmas.List.Edits.{paste_none, fill_from_more}
+use lib.Seq.{paste, ext_get_or, get_or-set_same, get_or-set_other}
 use borrow.Author.Tests.{lt-ltb, le-ltb, le-leb, lt-leb, ne_eqb, eqb-false}
 use Rattle.lists.specs.Lists.{tab, sum}
 use Rattle.lists.proofs.Laws.{length_tab, get_d_tab0}
+use Rattle.std.specs.List.{sum as library_sum}
+use Rattle.lists.proofs.Chains.{part_listed, sum_listed}
 use Rattle.calendar.proofs.Tables.{tri}
 use Rattle.validity.specs.Columns.{interval_start, interval_end, Rising}
 use Rattle.validity.specs.Days.{is_around, around, of_interval, sum_between}
 use Rattle.validity.specs.Steps.{first_place, filled}
-use Rattle.lists.proofs.Ranges.{first_is, first_not, sum_next}
+use Rattle.lists.proofs.Ranges.{first_is, first_not}
 use Rattle.lists.proofs.Tests.{and_false}
 
 -- ---- one value on a part
@@ -68,26 +72,20 @@ filled_more xs a p v h l =
     go q m (inr (inr s)) t =
         get_or-set_other (filled xs a p v) p q v 0 (omega arith) ∙ filled_after xs a p v q (omega arith) (omega arith) m ∙ sym (filled_after xs a (p + 1) v q (omega arith) (omega arith) m)
 
--- ---- daily totals, one more day
-pub between_none : (ds : List ℕ) (a : ℕ) → 0 ≡ sum_between ds a a
-unfolding sum_between sum tab
-between_none ds a = go (a - a) (omega arith)
+-- n places, by the library's `fill` of a part
+pub filled_by : (xs : List ℕ) (a v n : ℕ) → length xs ≡ 4392 → a + n ≤ 4392 → paste xs a (replicate n v) n ≡ filled xs a (a + n) v
+filled_by xs a v zero e h = sym (paste_none xs a (replicate 0 v)) ∙ filled_none xs a v e ∙ ap (λ (p : ℕ). filled xs a p v) (sym (add-zero a))
+filled_by xs a v (suc n) e h = subst (λ (m : ℕ). paste xs a (replicate m v) m ≡ filled xs a (a + m) v) (add-one n) (next (filled_by xs a v n e (omega arith)))
   where
-    go : (n : ℕ) → n ≡ 0 → 0 ≡ sum (tab n a (λ p. get_or ds p 0))
-    go zero e = refl
-    go (suc n) e = absurd (omega arith)
+    next : paste xs a (replicate n v) n ≡ filled xs a (a + n) v → paste xs a (replicate (n + 1) v) (n + 1) ≡ filled xs a (a + (n + 1)) v
+    next f =
+        sym (fill_from_more xs a n v (omega arith)) ∙ ap (λ (l : List ℕ). set l (a + n) v) f ∙ filled_more xs a (a + n) v (omega arith) (omega arith)
+        ∙ ap (λ (p : ℕ). filled xs a p v) (omega arith)
 
-pub between_more : (ds : List ℕ) (a p : ℕ) → a ≤ p → sum_between ds a (p + 1) ≡ sum_between ds a p + get_or ds p 0
+-- ---- the daily sums from a to the one before b, as a part of the block
+pub total_listed : (ds : List ℕ) (a b : ℕ) → a ≤ b → b ≤ length ds → library_sum (take (b - a) (drop a ds)) ≡ sum_between ds a b
 unfolding sum_between
-between_more ds a p h =
-    ap (λ (n : ℕ). sum (tab n a (λ q. get_or ds q 0))) length_is ∙ sum_next (p - a) a (λ q. get_or ds q 0)
-    ∙ ap (λ (q : ℕ). sum (tab (p - a) a (λ r. get_or ds r 0)) + get_or ds q 0) last_is
-  where
-    length_is : p + 1 - a ≡ suc (p - a)
-    length_is = omega arith
-
-    last_is : a + (p - a) ≡ p
-    last_is = omega arith
+total_listed ds a b h l = sum_listed (take (b - a) (drop a ds)) ∙ ap sum (part_listed 0 ds a b h l)
 
 -- ---- the interval around a place
 -- readings rise, between any two of them

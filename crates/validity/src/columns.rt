@@ -6,10 +6,7 @@ ghost use Rattle.validity.specs.Columns.{interval_start, interval_end, meets_win
 pub fn interval_count(n: usize) -> usize
     ensures { result ≡ n - 1 }
 {
-    if n == 0 {
-        return 0;
-    }
-    n - 1
+    n.saturating_sub(1)
 }
 
 // The position of a reading.
@@ -21,20 +18,12 @@ pub fn position_of(positions: &[u32], i: usize) -> usize
 }
 
 // Whether an interval from a to the day before b has a day of January to March or November to December, in the year whose 1 January is at s.
+#[tactic(auto, unfolding(crate::specs::Columns::meets_winter))]
 pub(crate) fn meets_winter(s: usize, a: usize, b: usize) -> bool
     requires { s ≤ 4392 }
     ensures { result ≡ meets_winter s a b }
 {
-    if b <= s {
-        return false;
-    }
-    if a < s + 91 {
-        return true;
-    }
-    if s + 366 <= a {
-        return false;
-    }
-    s + 305 < b
+    (a < s + 91 && s < b) || (a < s + 366 && s + 305 < b)
 }
 
 // The same for the i-th interval.
@@ -42,19 +31,14 @@ pub fn in_winter(positions: &[u32], s: usize, i: usize) -> bool
     requires { (i + 1 < length positions.now) × (s ≤ 4392) }
     ensures { result ≡ meets_winter s (interval_start positions.now i) (interval_end positions.now i) }
 {
-    let a = position_of(positions, i);
-    let b = position_of(positions, i + 1);
-    meets_winter(s, a, b)
+    meets_winter(s, position_of(positions, i), position_of(positions, i + 1))
 }
 
 // Whether a reading is R or C, not E.
+#[tactic(auto, using(crate::proofs::Trust::trusted_at))]
 pub(crate) fn is_trusted(kinds: &[u8], i: usize) -> bool
     requires { i < length kinds.now }
     ensures { result ≡ is_trusted_at kinds.now i }
 {
-    let k = kinds[i];
-    if k == b'R' {
-        return true;
-    }
-    k == b'C'
+    matches!(kinds[i], b'R' | b'C')
 }

@@ -1,27 +1,36 @@
 // The number of peak points in a year's row, and whether its curve is valid.
-ghost use Rattle.std.specs.Prelude.{◌≡◌, ◌<◌, get_or};
+ghost use Rattle.std.specs.Prelude.{◌≡◌, ◌<◌, ◌≤◌, get_or};
 ghost use Rattle.note.specs.Peaks.{peak_count, peak_days};
+ghost use Rattle.meaning.specs.Validity.{enough};
 ghost use Rattle.validity.specs.Availability.{is_present, present_on_day, availability_of, valid_row};
 
-use blocks::{HALF_HOURS, NO_POINT, row};
-use note::PeakDay;
+use blocks::{HALF_HOURS, NO_POINT};
 
 // Points present and points expected in a year.
 #[derive(Clone, Copy)]
 pub(crate) struct Counts {
-    pub present: usize,
-    pub expected: usize,
+    present: usize,
+    expected: usize,
 }
 
+impl Counts {
+    // Whether at least 80% of the points are present.
+    #[tactic(auto, unfolding(meaning::specs::Validity::enough))]
+    fn is_enough(self) -> bool
+        requires { (self.present ≤ 440) × (self.expected ≤ 440) }
+        ensures { result ≡ enough self.present self.expected }
+    {
+        80 * self.expected <= 100 * self.present
+    }
+}
+
+#[tactic(auto, using(lists::proofs::Ranges::get_d_any), unfolding(crate::specs::Availability::is_present, meaning::specs::Blocks::slot_at))]
 fn is_present(row: &[u32], w: usize, h: usize) -> bool
     requires { (w < 152) × (h < 20) }
     ensures { result ≡ is_present row.now w h }
 {
-    let i = HALF_HOURS * w + h;
-    if row.len() <= i {
-        return false;
-    }
-    row[i] != NO_POINT
+    row.get(HALF_HOURS * w + h)
+        .is_some_and(|point| *point != NO_POINT)
 }
 
 // The number of points present on a day.
@@ -29,15 +38,7 @@ fn present_on_day(row: &[u32], w: usize) -> usize
     requires { w < 152 }
     ensures { result ≡ present_on_day row.now w }
 {
-    let mut n = 0;
-    let mut h = 0;
-    while h < HALF_HOURS {
-        if is_present(row, w, h) {
-            n += 1;
-        }
-        h += 1;
-    }
-    n
+    (0..HALF_HOURS).filter(|h| is_present(row, w, *h)).count()
 }
 
 // The same for the year's k-th peak day.
@@ -46,8 +47,8 @@ fn present_on_peak_day(row: &[u32], year: u64, k: usize) -> usize
     ensures { result ≡ present_on_day row.now (get_or (peak_days year) k 0) }
 {
     match note::peak_day(year, k) {
-        PeakDay::Place(w) => present_on_day(row, w),
-        PeakDay::Nothing => 0,
+        Some(w) => present_on_day(row, w),
+        None => 0,
     }
 }
 
@@ -56,25 +57,16 @@ pub(crate) fn availability(row: &[u32], year: u64) -> Counts
     ensures { result ≡ availability_of row.now year }
 {
     let days = note::peak_count(year);
-    let mut present = 0;
-    let mut k = 0;
-    while k < days {
-        present += present_on_peak_day(row, year, k);
-        k += 1;
-    }
     Counts {
-        present: present,
-        expected: 20 * days,
+        present: (0..days).map(|k| present_on_peak_day(row, year, k)).sum(),
+        expected: HALF_HOURS * days,
     }
 }
 
 // Whether at least 80% of the peak points are present and no break is declared.
+#[tactic(auto, using(crate::proofs::Parts::year_most, crate::proofs::Parts::expected_most), unfolding(crate::specs::Availability::availability_of, crate::specs::Availability::valid_row))]
 pub fn is_valid(row: &[u32], year: u64, broken: bool) -> bool
     ensures { result ≡ valid_row row.now year broken }
 {
-    if broken {
-        return false;
-    }
-    let a = availability(row, year);
-    80 * a.expected <= 100 * a.present
+    !broken && availability(row, year).is_enough()
 }

@@ -1,12 +1,12 @@
 -- Dates, days and their date places.
-use mathlib.Core.Path.{◌≡◌, refl, ◌∙◌, ap}
+use mathlib.Core.Path.{◌≡◌, refl, sym, ◌∙◌, ap}
 use mathlib.Core.Logic.{◌↔◌, ◌⊎◌, inl, inr}
-use mathlib.Core.Bool.{Bool, true, false, not, ◌&&◌, ◌||◌, cond, beq}
+use mathlib.Core.Bool.{Bool, true, false, not, ◌&&◌, ◌||◌, cond, beq, true≢false}
 use Prim.Native.Nat.{ℕ, ◌+◌, ◌-◌, ◌%◌, ◌≤◌, ◌<◌}
 use native.Mathlib.Nat.{le_refl}
 use native.Mathlib.Omega.{arith}
 use lib.Dec.{T, leb, ltb, eqb, leb→le, le→leb, ltb→lt, eqb→eq, lit<, lit≤}
-use borrow.Author.Tests.{ltb-true, ltb-false, eqb-true, ne_eqb, le-leb, lt-leb}
+use borrow.Author.Tests.{ltb-true, ltb-false, eqb-true, eq-eqb, ne_eqb, le-leb, lt-leb}
 use Rattle.lists.specs.Lists.{sum, count, tab, range}
 use Rattle.lists.proofs.Reflect.{of_and, of_or, of_not, of_eq, of_le}
 use Rattle.lists.proofs.Tests.{is_true, and_left, and_right, and_made, or_true, or_false}
@@ -153,6 +153,14 @@ has_date_other y p h = go (ltb p 366) refl
     go : (b : Bool) → ltb p 366 ≡ b → has_date y p ≡ b
     go true e = has_date_rule y p (ltb-true p 366 e) ∙ rw (ne_eqb p 59 h) (or_true (leap y))
     go false e = no_date_past y p (ltb-false p 366 e)
+
+-- the same, at any place
+pub has_date_cases : (y p : ℕ) → has_date y p ≡ cond (eqb p 59) (leap y) (ltb p 366)
+has_date_cases y p = go (eqb p 59) refl
+  where
+    go : (b : Bool) → eqb p 59 ≡ b → has_date y p ≡ cond (eqb p 59) (leap y) (ltb p 366)
+    go true e = let q : p ≡ 59 = eqb→eq p 59 (rw e tt) in rw e (ap (λ (z : ℕ). has_date y z) q ∙ has_date_leap y)
+    go false e = rw e (has_date_other y p (λ q. true≢false (sym (eq-eqb p 59 q) ∙ e)))
 
 -- a year has 365 dates, a leap year one more
 pub dates_in_year : (y : ℕ) → count (has_date y) (range 0 366) ≡ cond (leap y) 366 365

@@ -1,11 +1,11 @@
 -- Winter days and their winter places.
 use mathlib.Core.Path.{◌≡◌, refl, sym, ◌∙◌, ap}
 use mathlib.Core.Logic.{◌↔◌, ◌⊎◌, inl, inr}
-use mathlib.Core.Bool.{Bool, true, false, not, ◌&&◌, ◌||◌, cond}
+use mathlib.Core.Bool.{Bool, true, false, not, ◌&&◌, ◌||◌, cond, true≢false}
 use Prim.Native.Nat.{ℕ, ◌+◌, ◌≤◌, ◌<◌}
 use native.Mathlib.Omega.{arith}
 use lib.Dec.{T, leb, ltb, eqb, ltb→lt, eqb→eq, lit<}
-use borrow.Author.Tests.{ltb-true, ltb-false, ne_eqb}
+use borrow.Author.Tests.{ltb-true, ltb-false, eq-eqb, ne_eqb}
 use Rattle.lists.specs.Lists.{sum, keep, count, tab, range}
 use Rattle.lists.proofs.Reflect.{of_and, of_or, of_le}
 use Rattle.lists.proofs.Tests.{and_left, and_right, and_made, or_true, or_false}
@@ -138,6 +138,14 @@ has_winter_date_other y w h = go (ltb w 152) refl
     go : (b : Bool) → ltb w 152 ≡ b → has_winter_date y w ≡ b
     go true e = has_winter_date_rule y w (ltb-true w 152 e) ∙ rw (ne_eqb w 59 h) (or_true (leap y))
     go false e = no_winter_date_past y w (ltb-false w 152 e)
+
+-- the same, at any place
+pub has_winter_date_cases : (y w : ℕ) → has_winter_date y w ≡ cond (eqb w 59) (leap y) (ltb w 152)
+has_winter_date_cases y w = go (eqb w 59) refl
+  where
+    go : (b : Bool) → eqb w 59 ≡ b → has_winter_date y w ≡ cond (eqb w 59) (leap y) (ltb w 152)
+    go true e = let q : w ≡ 59 = eqb→eq w 59 (rw e tt) in rw e (ap (λ (z : ℕ). has_winter_date y z) q ∙ has_winter_date_leap y)
+    go false e = rw e (has_winter_date_other y w (λ q. true≢false (sym (eq-eqb w 59 q) ∙ e)))
 
 -- a year has 151 winter dates, a leap year one more
 pub winter_dates_in_year : (y : ℕ) → count (has_winter_date y) (range 0 152) ≡ cond (leap y) 152 151

@@ -2,7 +2,7 @@
 ghost use Rattle.std.specs.Prelude.{◌≡◌, ◌≤◌};
 ghost use Rattle.meaning.specs.Record.{slots_fit};
 
-use crate::contents::winter_blocks::{day_end, is_dated};
+use crate::contents::winter_blocks::is_dated;
 use crate::day_contents::all_zero;
 use blocks::HALF_HOURS;
 use calendar::Years;
@@ -12,15 +12,6 @@ pub(crate) fn slots_fit(slots: &[u16], history: Years) -> bool
     requires { history.first ≤ 9999 }
     ensures { result ≡ slots_fit history slots.now }
 {
-    let mut i = 0;
-    while i < slots.len() {
-        let e = day_end(i, slots.len());
-        if !is_dated(history, history.first, i) {
-            if !all_zero(&slots[i..e]) {
-                return false;
-            }
-        }
-        i += HALF_HOURS;
-    }
-    true
+    slots.chunks(HALF_HOURS).enumerate().all(|(day, values)| is_dated(history, history.first, day)
+        || all_zero(values))
 }

@@ -11,20 +11,15 @@ use readings::is_kind;
 
 const MOST_INDEX: u64 = 1000000000000;
 
+#[tactic(auto, unfolding(meaning::specs::Record::reading_fits, crate::specs::Axis::placed_at))]
 fn reading_fits(axis: Years, position: u32, index: u64, kind: u8) -> bool
     requires { axis.first ≤ 9999 }
     ensures { result ≡ reading_fits axis (reading position index (kind_of_letter kind)) }
 {
-    if MOST_INDEX < index {
-        return false;
-    }
-    if !is_kind(kind) {
-        return false;
-    }
-    is_placed(axis, position as usize)
+    index <= MOST_INDEX && is_kind(kind) && is_placed(axis, position as usize)
 }
 
-// Whether the first n readings fit, in one pass with the least position and the least index that those before allow.
+// Whether the first n readings of the plain columns fit, in one pass with the least position and the least index that those before allow.
 pub(crate) fn readings_fit(
     positions: &[u32],
     indexes: &[u64],
@@ -38,8 +33,7 @@ pub(crate) fn readings_fit(
 {
     let mut least: u64 = 0;
     let mut index: u64 = 0;
-    let mut k = 0;
-    while k < n {
+    for k in 0..n {
         let p = positions[k];
         let x = indexes[k];
         if !reading_fits(axis, p, x, kinds[k]) {
@@ -54,7 +48,6 @@ pub(crate) fn readings_fit(
         }
         least = at + 1;
         index = x;
-        k += 1;
     }
     true
 }

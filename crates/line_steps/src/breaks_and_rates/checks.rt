@@ -1,83 +1,60 @@
 // The refusals 4 to 12 of B and R: a history year, and its rate.
 ghost use Rattle.std.specs.Prelude.{◌≡◌};
 ghost use Rattle.calendar.specs.Spans.{history_years};
-ghost use Rattle.meaning.specs.Line.{B, R};
+ghost use Rattle.meaning.specs.Line.{B, R, year_on};
 ghost use Rattle.meaning.specs.Refusals.{refusal};
+ghost use Rattle.refusals.specs.Refusals.{unless_reason};
+ghost use Rattle.line_form.specs.Ranges.{is_year_outside, is_rate_outside};
 ghost use Rattle.line_checks.specs.Before.{EachTagged, before_rising};
-ghost use Rattle.line_steps.specs.Answers.{year_checked, rate_checked};
+ghost use Rattle.line_checks.specs.Places.{rate_on};
 
-use calendar::{history, is_among};
-use line_checks::{common_checks, first_refusal, is_misplaced, is_not_later, is_within};
-use line_form::{Fields, Tag};
-use text::and;
+use calendar::history;
+use line_checks::{in_order, is_misplaced, is_within, rising_checks};
+use line_form::{Fields, RateRead, Tag, read_rate, read_year};
+use refusals::Refusal;
 
-// The refusal of a B line, 0 for none, and its year.
-#[derive(Clone, Copy)]
-pub(crate) struct YearChecked {
-    pub number: u64,
-    pub year: u64,
+#[tactic(auto, unfolding(line_form::specs::Ranges::is_year_outside))]
+fn is_year_outside(al: u64, filiere: u64, year: u64) -> bool
+    ensures { result ≡ is_year_outside (history_years al filiere) year }
+{
+    !history(al, filiere).contains(year)
 }
 
-// The refusal of an R line, 0 for none, its year and its rate.
-#[derive(Clone, Copy)]
-pub(crate) struct RateChecked {
-    pub number: u64,
-    pub year: u64,
-    pub rate: u64,
+#[tactic(auto, unfolding(line_form::specs::Ranges::is_rate_outside))]
+fn is_rate_outside(al: u64, filiere: u64, read: RateRead) -> bool
+    ensures { result ≡ is_rate_outside (history_years al filiere) read }
+{
+    !history(al, filiere).contains(read.year) || !is_within(read.rate, 10, 1000)
 }
 
+// The year of a B line.
 pub(crate) fn check_break(
     fields: Fields,
     last: u64,
     al: u64,
     filiere: u64,
     latest: u64,
-) -> YearChecked
-    ensures { EachTagged B fields (λ l. result ≡ year_checked (refusal (before_rising last (history_years al filiere) latest) l) l) }
+) -> Result<u64, Refusal>
+    ensures { EachTagged B fields (λ l. result ≡ unless_reason (refusal (before_rising last (history_years al filiere) latest) l) (year_on l)) }
 {
-    let r = line_form::read_year(fields);
-    let misplaced = is_misplaced(last, Tag::B);
-    let inside = is_among(history(al, filiere), r.year);
-    let mut checks = common_checks(misplaced, r.formed, inside);
-    checks.not_later = is_not_later(latest, r.year);
-    let number = first_refusal(checks);
-    if number != 0 {
-        return YearChecked { number, year: 0 };
-    }
-    YearChecked {
-        number,
-        year: r.year,
-    }
+    let year = in_order(is_misplaced(last, Tag::B), read_year(fields))?;
+    let outside = is_year_outside(al, filiere, year);
+    rising_checks(outside, false, latest, year)?;
+    Ok(year)
 }
 
+// The year and the rate of an R line.
 pub(crate) fn check_rate(
     fields: Fields,
     last: u64,
     al: u64,
     filiere: u64,
     latest: u64,
-) -> RateChecked
-    ensures { EachTagged R fields (λ l. result ≡ rate_checked (refusal (before_rising last (history_years al filiere) latest) l) l) }
+) -> Result<RateRead, Refusal>
+    ensures { EachTagged R fields (λ l. result ≡ unless_reason (refusal (before_rising last (history_years al filiere) latest) l) (rate_on l)) }
 {
-    let r = line_form::read_rate(fields);
-    let misplaced = is_misplaced(last, Tag::R);
-    let inside = and(
-        is_among(history(al, filiere), r.year),
-        is_within(r.rate, 10, 1000),
-    );
-    let mut checks = common_checks(misplaced, r.formed, inside);
-    checks.not_later = is_not_later(latest, r.year);
-    let number = first_refusal(checks);
-    if number != 0 {
-        return RateChecked {
-            number,
-            year: 0,
-            rate: 0,
-        };
-    }
-    RateChecked {
-        number,
-        year: r.year,
-        rate: r.rate,
-    }
+    let read = in_order(is_misplaced(last, Tag::R), read_rate(fields))?;
+    let outside = is_rate_outside(al, filiere, read);
+    rising_checks(outside, false, latest, read.year)?;
+    Ok(read)
 }

@@ -9,67 +9,65 @@ use crate::readings_and_sums::checks::{check_daily, check_reading};
 use blocks::put_sum;
 use calendar::axis;
 use line_form::{Fields, Tag, rank};
-use progress::{Progress, Step, no_reading};
+use progress::{Progress, Step};
+use readings::Reading;
+use refusals::Refusal;
 
 // Applies an X line: one more reading, which the caller stores.
-pub fn reading_line(mut progress: Progress, fields: Fields) -> Step
+pub fn reading_line(mut progress: Progress, fields: Fields) -> Result<Step, Refusal>
     requires { SomeTagged X fields }
     ensures { EachTagged X fields (λ l. StepsTo progress l no_block result no_block) }
 {
     let site = progress.site;
-    let mut lasts = progress.lasts;
     let checked = check_reading(
         fields,
         progress.last,
         site.al,
         site.filiere,
-        lasts.x,
+        progress.lasts.x,
         progress.last_index,
         progress.readings,
-    );
-    let number = checked.number;
-    if number != 0 {
-        return no_reading(number, progress);
-    }
-    let index = checked.index;
-    let kind = checked.kind;
-    lasts.x = checked.key;
-    progress.lasts = lasts;
+    )?;
+    progress.lasts.x = checked.key;
     progress.readings += 1;
-    progress.last_index = index;
+    progress.last_index = checked.index;
     progress.last = rank(Tag::X);
-    Step {
-        number: 0,
+    let reading = Reading {
+        position: checked.position as u32,
+        count: checked.index,
+        kind: checked.kind,
+    };
+    Ok(Step {
         progress,
-        reads: true,
-        position: checked.position,
-        index,
-        kind,
-    }
+        reading: Some(reading),
+    })
 }
 
 // Applies a D line: the daily sum at its position, and one more date.
-pub fn daily_line(mut progress: Progress, fields: Fields, daily: &mut [u32]) -> Step
+pub fn daily_line(
+    mut progress: Progress,
+    fields: Fields,
+    daily: &mut [u32],
+) -> Result<Step, Refusal>
     requires { SomeTagged D fields × FewDates progress.tallies.daily_dates × (length daily.old ≡ 4392) }
     ensures { EachTagged D fields (λ l. StepsTo progress l (daily_block daily.old) result (daily_block daily.new)) }
 {
     let site = progress.site;
-    let mut lasts = progress.lasts;
-    let checked = check_daily(fields, progress.last, site.al, site.filiere, lasts.d);
-    let number = checked.number;
-    if number != 0 {
-        return no_reading(number, progress);
-    }
+    let checked = check_daily(
+        fields,
+        progress.last,
+        site.al,
+        site.filiere,
+        progress.lasts.d,
+    )?;
     let years = axis(site.al, site.filiere);
-    let year = checked.year;
-    let i = (year - years.first) as usize;
+    let i = (checked.year - years.first) as usize;
     put_sum(daily, checked.position, checked.sum);
-    let mut tallies = progress.tallies;
-    let dates = tallies.daily_dates[i];
-    tallies.daily_dates[i] = dates + 1;
-    lasts.d = checked.key;
-    progress.tallies = tallies;
-    progress.lasts = lasts;
+    progress.tallies.daily_dates[i] += 1;
+    progress.lasts.d = checked.key;
     progress.last = rank(Tag::D);
-    no_reading(0, progress)
+    Ok(Step {
+        progress,
+        reading: None,
+    })
 }

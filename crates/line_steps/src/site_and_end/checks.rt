@@ -1,61 +1,39 @@
 // The refusals 4 to 12 of S and E, the first line of a file and its last.
 ghost use Rattle.std.specs.Prelude.{◌≡◌};
-ghost use Rattle.meaning.specs.Line.{S, E};
+ghost use Rattle.meaning.specs.Line.{S, E, site_on};
 ghost use Rattle.meaning.specs.Refusals.{refusal};
+ghost use Rattle.refusals.specs.Refusals.{unless_reason};
+ghost use Rattle.line_form.specs.Ranges.{is_site_outside};
+ghost use Rattle.line_form.specs.Views.{site_repr};
 ghost use Rattle.line_checks.specs.Before.{EachTagged, before_first, before_end};
-ghost use Rattle.line_steps.specs.Answers.{site_checked, end_checked};
 
-use line_checks::{common_checks, first_refusal, is_misplaced, is_within};
-use line_form::{Fields, Meter, NO_TAG, Site, Tag, is_too_soon};
-use text::and;
+use line_checks::{in_order, is_misplaced, is_within, refuse_if};
+use line_form::{Fields, NO_TAG, Site, Tag, is_too_soon, read_count, read_site};
+use refusals::Refusal;
 
-// The refusal of an S line, 0 for none, and its site.
-#[derive(Clone, Copy)]
-pub(crate) struct SiteChecked {
-    pub number: u64,
-    pub site: Site,
-}
-
-// The refusal of an E line, 0 for none.
-#[derive(Clone, Copy)]
-pub(crate) struct EndChecked {
-    pub number: u64,
-}
-
-pub(crate) fn check_site(fields: Fields, last: u64) -> SiteChecked
-    ensures { EachTagged S fields (λ l. result ≡ site_checked (refusal (before_first last) l) l) }
+#[tactic(auto, unfolding(line_form::specs::Ranges::is_site_outside))]
+fn is_site_outside(site: Site) -> bool
+    ensures { result ≡ is_site_outside site }
 {
-    let r = line_form::read_site(fields);
-    let site = r.site;
-    let numbers = and(
-        is_within(site.filiere, 1, 11),
-        is_within(site.ps, 1, 100_000_000),
-    );
-    let inside = and(is_within(site.al, 2021, 2026), numbers);
-    let mut checks = common_checks(last != NO_TAG, r.formed, inside);
-    checks.too_soon = is_too_soon(site.al, site.filiere);
-    let number = first_refusal(checks);
-    if number != 0 {
-        return SiteChecked {
-            number,
-            site: Site {
-                al: 0,
-                filiere: 0,
-                meter: Meter::NoMeter,
-                ps: 0,
-            },
-        };
-    }
-    SiteChecked { number, site }
+    !is_within(site.al, 2021, 2026)
+        || !is_within(site.filiere, 1, 11)
+        || !is_within(site.ps, 1, 100_000_000)
 }
 
-pub(crate) fn check_end(fields: Fields, last: u64, count: u64) -> EndChecked
-    ensures { EachTagged E fields (λ l. result ≡ end_checked (refusal (before_end last count) l)) }
+// The site of an S line.
+pub(crate) fn check_site(fields: Fields, last: u64) -> Result<Site, Refusal>
+    ensures { EachTagged S fields (λ l. result ≡ unless_reason (refusal (before_first last) l) (site_repr (site_on l))) }
 {
-    let r = line_form::read_count(fields);
-    let misplaced = is_misplaced(last, Tag::E);
-    let mut checks = common_checks(misplaced, r.formed, r.count <= 9999);
-    checks.miscounted = r.count != count;
-    let number = first_refusal(checks);
-    EndChecked { number }
+    let site = in_order(last != NO_TAG, read_site(fields))?;
+    refuse_if(is_site_outside(site), Refusal::Outside)?;
+    refuse_if(is_too_soon(site.al, site.filiere), Refusal::TooSoon)?;
+    Ok(site)
+}
+
+pub(crate) fn check_end(fields: Fields, last: u64, count: u64) -> Result<(), Refusal>
+    ensures { EachTagged E fields (λ l. result ≡ unless_reason (refusal (before_end last count) l) tt) }
+{
+    let lines = in_order(is_misplaced(last, Tag::E), read_count(fields))?;
+    refuse_if(9999 < lines, Refusal::Outside)?;
+    refuse_if(lines != count, Refusal::Miscounted)
 }

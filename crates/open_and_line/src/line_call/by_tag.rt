@@ -9,7 +9,8 @@ use line_steps::{
     break_line, daily_line, end_line, points_line, profiles_line, rate_line, reading_line,
     site_line,
 };
-use progress::{Progress, Step, no_reading};
+use progress::{Progress, Step};
+use refusals::Refusal;
 
 // The step of a line: 2 and 3, then by tag. Each tag is lent the blocks that it writes, and no other.
 pub(crate) fn take_line(
@@ -20,15 +21,16 @@ pub(crate) fn take_line(
     far: &mut [u32],
     slots: &mut [u16],
     daily: &mut [u32],
-) -> Step
+) -> Result<Step, Refusal>
     requires { (rec_fits (open_rec count progress) ≡ true) × LineSizes (line_blocks near.old far.old slots.old daily.old) }
-    ensures { step_view count result (line_blocks near.new far.new slots.new daily.new) ≡ step_of (open_rec count progress) line.now (line_blocks near.old far.old slots.old daily.old) }
+    ensures { step_view count progress result (line_blocks near.new far.new slots.new daily.new) ≡ step_of (open_rec count progress) line.now (line_blocks near.old far.old slots.old daily.old) }
 {
-    let fields = read_fields(line);
-    if fields.count == 0 {
-        return no_reading(2, progress);
-    }
-    let tag = known_tag(fields);
+    let Some(fields) = read_fields(line) else {
+        return Err(Refusal::Illegible);
+    };
+    let Some(tag) = known_tag(fields) else {
+        return Err(Refusal::Unknown);
+    };
     match tag {
         Tag::S => site_line(progress, fields),
         Tag::C => points_line(progress, fields, near, far),
@@ -38,6 +40,5 @@ pub(crate) fn take_line(
         Tag::B => break_line(progress, fields),
         Tag::R => rate_line(progress, fields),
         Tag::E => end_line(progress, count, fields),
-        Tag::Unknown => no_reading(3, progress),
     }
 }

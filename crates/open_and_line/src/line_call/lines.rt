@@ -1,15 +1,15 @@
 // A line of a file, on a record in any state.
-ghost use Rattle.std.specs.Prelude.{◌≡◌, set};
+ghost use Rattle.std.specs.Prelude.{◌≡◌};
 ghost use Rattle.meaning.specs.Calls.{line_of};
 ghost use Rattle.progress.specs.ProgressViews.{rec_of};
 ghost use Rattle.readings.specs.Readings.{readings_view};
 ghost use Rattle.readings.specs.Columns.{lent_blocks};
 ghost use Rattle.readings.specs.Lent.{EachLent};
-ghost use Rattle.open_and_line.specs.LineOutcomes.{line_outcome_view};
+ghost use Rattle.open_and_line.specs.LineOutcomes.{line_outcome_view, with_reading};
 
 use crate::line_call::by_tag::take_line;
-use crate::line_call::outcome::{LineOutcome, counted, unchanged};
-use answers::line_refusal;
+use crate::line_call::outcome::{LineOutcome, counted, refused};
+use answers::{Lengths, line_refusal};
 use progress::{Progress, State};
 
 // The outcome of a line, by the parts of a record and the lengths of readings and curve. 1 and 13 come first, and leave the record.
@@ -25,23 +25,22 @@ pub fn apply_line(
     readings: usize,
     curve: usize,
 ) -> LineOutcome
-    ensures { EachLent readings curve (λ rs c. line_outcome_view result (lent_blocks near.new far.new slots.new daily.new (readings_view (set rs result.reading_place result.reading)) c) ≡ line_of (rec_of state count progress) line.now (lent_blocks near.old far.old slots.old daily.old (readings_view rs) c)) }
+    ensures { EachLent readings curve (λ rs c. line_outcome_view result (lent_blocks near.new far.new slots.new daily.new (readings_view (with_reading rs result.reading)) c) ≡ line_of (rec_of state count progress) line.now (lent_blocks near.old far.old slots.old daily.old (readings_view rs) c)) }
 {
-    let number = line_refusal(
-        state,
-        count,
-        progress,
-        near.len(),
-        far.len(),
-        slots.len(),
-        daily.len(),
+    let lengths = Lengths {
+        near: near.len(),
+        far: far.len(),
+        slots: slots.len(),
+        daily: daily.len(),
         readings,
         curve,
-    );
-    if number != 0 {
-        return unchanged(state, count, progress, number, readings);
+    };
+    match line_refusal(state, count, progress, lengths) {
+        Err(refusal) => refused(state, count, progress, refusal),
+        Ok(()) => {
+            let n = progress.readings as usize;
+            let step = take_line(progress, count, line, near, far, slots, daily);
+            counted(count, progress, step, n)
+        }
     }
-    let n = progress.readings as usize;
-    let step = take_line(progress, count, line, near, far, slots, daily);
-    counted(count, step, n, readings)
 }

@@ -1,19 +1,26 @@
 // What a line of a file returns.
 //
-// The reading of a line comes with its place in the lent list, for the caller to store. Where a line has none, that place is past the list's end.
-ghost use Rattle.std.specs.Prelude.{◌≡◌, cond, ◌≤◌, ◌<◌, eqb};
-ghost use Rattle.progress.specs.declared.State.TheVariants.{Open, Refused};
-ghost use Rattle.open_and_line.specs.LineOutcomes.{unchanged_of, line_outcome_of};
+// The reading of a line, if it has one, comes with its place in the lent list, for the caller to store.
+ghost use Rattle.std.specs.Prelude.{◌≡◌, ◌≤◌};
+ghost use Rattle.refusals.specs.Refusals.{refusal_number};
+ghost use Rattle.open_and_line.specs.LineOutcomes.{refused_of, accepted_of, line_outcome_of, with_reading};
 
-use answers::{Answer, answer_of};
+use answers::Answer;
 use progress::{Progress, State, Step};
-use readings::{Kind, Reading};
+use readings::{Reading, put};
+use refusals::Refusal;
+
+// A reading and its place in the lent list.
+#[derive(Clone, Copy)]
+pub struct PlacedReading {
+    pub place: usize,
+    pub reading: Reading,
+}
 
 #[derive(Clone, Copy)]
 pub struct LineOutcome {
-    // the reading, and its place in the lent list
-    pub reading_place: usize,
-    pub reading: Reading,
+    // the reading to store, which only an accepted X line has
+    pub reading: Option<PlacedReading>,
     pub answer: Answer,
     // the record by its parts
     pub state: State,
@@ -21,69 +28,58 @@ pub struct LineOutcome {
     pub progress: Progress,
 }
 
-// The outcome of 1 and 13: the record stays, and the count is its own.
-pub(crate) fn unchanged(
-    state: State,
-    count: u64,
-    progress: Progress,
-    number: u64,
-    past: usize,
-) -> LineOutcome
-    ensures { result ≡ unchanged_of state count progress number past }
+impl LineOutcome {
+    // Stores the reading of the line, if it has one.
+    pub fn store(self, readings: &mut [Reading])
+        ensures { readings.new ≡ with_reading readings.old self.reading }
+    {
+        if let Some(placed) = self.reading {
+            put(readings, placed.place, placed.reading);
+        }
+    }
+}
+
+// The outcome of a refusal: the record with this state and count, and no reading.
+pub(crate) fn refused(state: State, count: u64, progress: Progress, refusal: Refusal) -> LineOutcome
+    ensures { result ≡ refused_of state count progress (refusal_number refusal) }
 {
+    let number = u64::from(refusal);
     LineOutcome {
         answer: Answer::Refused { number, count },
         state,
         count,
         progress,
-        reading_place: past,
-        reading: Reading {
-            position: 0,
-            count: 0,
-            kind: Kind::E,
-        },
+        reading: None,
     }
 }
 
-// The state after a line: 2 to 12 mark the record refused.
-fn state_of(number: u64) -> State
-    ensures { result ≡ cond (eqb number 0) Open Refused }
+// The outcome of an accepted line that is the count-th: its reading goes to the next place of the list, which holds n.
+fn accepted(count: u64, step: Step, n: usize) -> LineOutcome
+    ensures { result ≡ accepted_of count step n }
 {
-    if number == 0 {
-        return State::Open;
-    }
-    State::Refused
-}
-
-fn place_of(reads: bool, n: usize, past: usize) -> usize
-    ensures { result ≡ cond reads n past }
-{
-    if reads {
-        return n;
-    }
-    past
-}
-
-// The outcome of a line on an open record of `taken` lines and n readings: the line is counted.
-pub(crate) fn counted(taken: u64, step: Step, n: usize, past: usize) -> LineOutcome
-    requires { (taken ≤ 9999) × (step.position < 4392) }
-    ensures { result ≡ line_outcome_of taken step n past }
-{
-    let progress = step.progress;
-    let kind = step.kind;
-    let count = taken + 1;
-    let answer = answer_of(step.number, count);
-    let state = state_of(step.number);
+    let reading = step.reading;
     LineOutcome {
-        answer,
-        state,
+        answer: Answer::Accepted,
+        state: State::Open,
         count,
-        progress,
-        reading_place: place_of(step.reads, n, past),
-        reading: Reading {
-            position: step.position as u32,
-            count: step.index,
-            kind,
-        },
+        progress: step.progress,
+        reading: reading.map(|reading| PlacedReading { place: n, reading }),
+    }
+}
+
+// The outcome of a line on an open record of `taken` lines and n readings: the line is counted, and 2 to 12 mark the record refused.
+pub(crate) fn counted(
+    taken: u64,
+    progress: Progress,
+    step: Result<Step, Refusal>,
+    n: usize,
+) -> LineOutcome
+    requires { taken ≤ 9999 }
+    ensures { result ≡ line_outcome_of taken progress step n }
+{
+    let count = taken + 1;
+    match step {
+        Ok(step) => accepted(count, step, n),
+        Err(refusal) => refused(State::Refused, count, progress, refusal),
     }
 }

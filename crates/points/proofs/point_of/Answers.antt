@@ -2,6 +2,7 @@ use mathlib.Core.Path.{◌≡◌, subst}
 use mathlib.Core.Logic.{◌⊎◌, ⊎_elim}
 use Prim.Native.Nat.{ℕ, ◌+◌}
 use lib.ListN.{get_or}
+use Rattle.std.proofs.Common.{rules}
 use Rattle.meaning.specs.Points.{Source, own, rebuilt_by}
 use Rattle.meaning.specs.Blocks.{slot_at}
 use Rattle.history.specs.declared.cases.Case.{Case}
@@ -10,9 +11,9 @@ use Rattle.points.specs.declared.own.SiteFactors.{SiteFactors}
 use Rattle.history.specs.Cases.{case_view}
 use Rattle.points.specs.OwnPoints.{code_in, read_in, profiled_on}
 use Rattle.points.specs.DonorOrigins.{curve_origin, index_origin}
-use Rattle.points.specs.Sources.{Day, day, curve_donors_in, index_donors_in, default_in, source_in}
+use Rattle.points.specs.Sources.{Day, curve_donors_in, index_donors_in, default_in, source_in}
+use Rattle.points.specs.Days.{day_view}
 use Rattle.points.specs.OwnFits.{PlacePointIs}
-use Rattle.points.proofs.Gathered.{fit_more, rebuilt_filled}
 use Rattle.points.proofs.point_of.Goals as goal
 
 -- ---- the cases with the same kind of source
@@ -33,22 +34,7 @@ default_source b d x k w h e = ⊎_elim (λ q. rw q) (λ q. rw q) e
 
 pub measured-requires : goal.measured-requires
 unfolding code_in
-measured-requires c = rw c.code.ensures (c.requires.site_factors_fit.1.points (c.args.site.first + c.args.target.k) (slot_at c.args.w c.args.h))
-
-pub profiled-requires : goal.profiled-requires
-profiled-requires c =
-    (c.requires.site_factors_fit.1.energies c.args.target.k, c.profile.ensures.fits, c.requires.site_factors_fit.1.totals c.args.target.k)
-
-pub rebuilt-requires : goal.rebuilt-requires
-rebuilt-requires c =
-    (c.requires.site_factors_fit.1.cas.most c.args.target.k, fit_more c.args.site.count 10 c.from_curves.result c.requires.site_factors_fit.0.count c.from_curves.ensures.fit)
-
-pub rebuilt-requires-in-T3 : goal.rebuilt-requires-in-T3
-rebuilt-requires-in-T3 c =
-    (c.requires.site_factors_fit.1.cas.most c.args.target.k, fit_more c.args.site.count 10 c.from_indexes.result c.requires.site_factors_fit.0.count c.from_indexes.ensures.fit)
-
-pub by_default-requires : goal.by_default-requires
-by_default-requires c = (c.requires.site_factors_fit.0, c.profile-in-T4.ensures.fits, c.requires.site_factors_fit.1.cas.most c.args.target.k)
+measured-requires c = rw c.code.ensures (c.args.day.now.fits.points (c.args.day.now.site.now.first + c.args.target.k) (slot_at c.args.day.now.w c.args.h))
 
 pub returns-in-M : goal.returns-in-M
 unfolding source_in read_in
@@ -59,30 +45,29 @@ unfolding profiled_on
 returns-in-T1 c =
     let a = c.args in
     subst (λ (x : Source). PlacePointIs x c.profiled.result)
-    (profiled-source a.site (day a.near.now a.far.now a.slots.now a.energies.now a.totals.now a.is_donor.now a.curves.now a.cas.now) a.target.case a.target.k a.w a.h c.in-T1.is)
+    (profiled-source a.day.now.site.now (day_view a.day.now) a.target.case a.target.k a.day.now.w a.h c.in-T1.is)
     (rw c.profile.ensures.is at c.profiled.ensures)
 
 pub returns-in-T2 : goal.returns-in-T2
 unfolding source_in curve_donors_in
 returns-in-T2 c =
-    let a = c.args in
-    rw c.in-T2.is
-    (rebuilt_filled a.site.count (get_or a.cas.now a.target.k 0) a.cas.now (curve_origin a.site.al a.site.first a.near.now a.far.now a.curves.now a.w a.h)
-    c.from_curves.result c.rebuilt.result c.requires.site_factors_fit.1.cas c.from_curves.ensures c.rebuilt.ensures)
+    let s = c.args.day.now.site.now in
+    let d = c.args.day.now in
+    rw c.in-T2.is (c.rebuilt_point.ensures (curve_origin s.al s.first d.near.now d.far.now d.curves.now d.w c.args.h) (λ k r l p. search rules))
 
 pub returns-in-T3 : goal.returns-in-T3
 unfolding index_donors_in
 returns-in-T3 c =
     let a = c.args in
-    subst (λ (x : Source). PlacePointIs x c.rebuilt-in-T3.result)
-    (index-source a.site (day a.near.now a.far.now a.slots.now a.energies.now a.totals.now a.is_donor.now a.curves.now a.cas.now) a.target.case a.target.k a.w a.h c.in-T3.is)
-    (rebuilt_filled a.site.count (get_or a.cas.now a.target.k 0) a.cas.now (index_origin a.slots.now a.energies.now a.totals.now a.is_donor.now a.w a.h)
-    c.from_indexes.result c.rebuilt-in-T3.result c.requires.site_factors_fit.1.cas c.from_indexes.ensures c.rebuilt-in-T3.ensures)
+    let d = a.day.now in
+    subst (λ (x : Source). PlacePointIs x c.rebuilt_point-in-T3.result)
+    (index-source a.day.now.site.now (day_view d) a.target.case a.target.k d.w a.h c.in-T3.is)
+    (c.rebuilt_point-in-T3.ensures (index_origin d.slots.now d.years.now.energies d.years.now.totals d.years.now.is_donor d.w a.h) (λ k r l p. search rules))
 
 pub returns-in-T4 : goal.returns-in-T4
 unfolding default_in
 returns-in-T4 c =
     let a = c.args in
     subst (λ (x : Source). PlacePointIs x c.by_default.result)
-    (default_source a.site (day a.near.now a.far.now a.slots.now a.energies.now a.totals.now a.is_donor.now a.curves.now a.cas.now) a.target.case a.target.k a.w a.h c.in-T4.is)
+    (default_source a.day.now.site.now (day_view a.day.now) a.target.case a.target.k a.day.now.w a.h c.in-T4.is)
     (rw c.profile-in-T4.ensures.is at c.by_default.ensures)

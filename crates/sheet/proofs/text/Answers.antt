@@ -1,5 +1,7 @@
-use Rattle.sheet.proofs.Rows.{put_first}
+use native.Mathlib.Omega.{arith}
+use Rattle.std.proofs.Common.{refl}
+use Rattle.sheet.proofs.Chains.{adds_first}
 use Rattle.sheet.proofs.text.Goals as goal
 
 pub returns : goal.returns
-returns c = put_first _ _ _ _ c.put_sheet-length.ensures
+returns c = adds_first _ _ _ c.put_sheet.ensures.sheet refl (omega (arith, c.put_sheet.ensures.short))

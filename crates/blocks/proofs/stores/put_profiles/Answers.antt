@@ -1,13 +1,16 @@
-use native.Mathlib.Omega.{arith}
-use Prim.Native.Nat.{◌*◌, ◌-◌}
+use mathlib.Core.Path.{◌≡◌}
+use mathlib.Core.List.{map}
+use lib.ListN.{get_or}
+use Rattle.std.proofs.Common.{rules, tests}
+use Rattle.lists.proofs.Chains.{made_by}
 use Rattle.meaning.specs.Blocks.{slots_start}
 use Rattle.blocks.specs.Stores.{profile_code, slots_put}
-use Rattle.blocks.proofs.Runs.{row_put}
+use Rattle.blocks.proofs.Runs.{mapped}
 use Rattle.blocks.proofs.stores.put_profiles.Goals as goal
 
 pub returns : goal.returns
 unfolding slots_put slots_start
 returns c =
-    let a = c.args in
-    let start = 3040 * (a.year - a.oldest) in
-    row_put profile_code a.slots.now a.codes.now _ start a.place (omega arith) c.requires.2.0 c.requires.0 c.store_profiles.ensures
+    let e : c.from_fn-values.result ≡ map profile_code c.args.codes.now =
+    mapped profile_code _ _ c.requires.0 (made_by _ (λ k. profile_code (get_or c.args.codes.now k 0)) 0 _ 20 _ c.from_fn-values.ensures.items (λ x b r q k. search (rules, tests))) in
+    rw (← e) c.put_day.ensures

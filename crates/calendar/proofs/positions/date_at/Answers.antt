@@ -19,11 +19,11 @@ pub returns-then-not-has_date : goal.returns-then-not-has_date
 returns-then-not-has_date c =
     rw (← c.axis-years.ensures) (sym (date_missing c.axis-years.result c.args.position (sym c.has_date.ensures ∙ c.if-not-has_date.true)))
 
-pub returns-in-Of : goal.returns-in-Of
-returns-in-Of c =
-    rw (← c.axis-years.ensures)
-    (sym (date_by c.axis-years.result c.args.position _ _ c.if-years-row.false (sym c.has_date.ensures ∙ c.if-not-has_date.false) (sym c.in-Of.ensures)))
+pub returns-in_err-month : goal.returns-in_err-month
+returns-in_err-month c =
+    absurd (omega (arith, day_nowhere _ (sym c.day_at.ensures ∙ c.in_err-month.was)))
 
-pub returns-in-Nowhere : goal.returns-in-Nowhere
-returns-in-Nowhere c =
-    absurd (omega (arith, day_nowhere _ (sym c.in-Nowhere.ensures)))
+pub returns : goal.returns
+returns c =
+    rw (← c.axis-years.ensures)
+    (sym (date_by c.axis-years.result c.args.position _ _ c.if-years-row.false (sym c.has_date.ensures ∙ c.if-not-has_date.false) (sym c.day_at.ensures ∙ c.in_ok-month.was)))

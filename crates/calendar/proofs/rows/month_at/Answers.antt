@@ -9,5 +9,5 @@ returns-then-place-ge335 c = sym (december c.args.place c.if-place-ge335.true)
 pub returns-then-start-place : goal.returns-then-start-place
 returns-then-start-place c = sym (next_month _ c.if-place-ge335.false (omega (arith, c.start.ensures)))
 
-pub returns : goal.returns
-returns c = sym (this_month _ c.if-place-ge335.false (omega (arith, c.start.ensures)))
+pub returns-else-start-place : goal.returns-else-start-place
+returns-else-start-place c = sym (this_month _ c.if-place-ge335.false (omega (arith, c.start.ensures)))

@@ -1,4 +1,6 @@
-use mathlib.Core.Path.{refl}
+use mathlib.Core.Path.{◌≡◌, refl}
+use Rattle.std.specs.Prelude.{Err}
+use Rattle.std.proofs.Common.{rules}
 use native.Mathlib.Omega.{arith}
 use Rattle.close.proofs.FileFacts.{rise, climb, kinds_held, daily_size_lem, curve_size_lem, site_fits_lem}
 use Rattle.close.proofs.CloseSteps.{few_years, found_by, lists, stops, exceeds, whole, some_counted, reported}
@@ -18,38 +20,39 @@ default_years-defaults-requires c = (few_years c.requires c.history-history.ensu
 pub by_position-requires : goal.by_position-requires
 by_position-requires c = record { rising = (rise c.requires, climb c.requires); daily_len = (daily_size_lem c.requires, refl, refl) }
 
-pub data_refusal-number-requires : goal.data_refusal-number-requires
-data_refusal-number-requires c =
+pub data_refusal-requires : goal.data_refusal-requires
+data_refusal-requires c =
     let e = few_years c.requires c.history-history.ensures in
     (omega (arith, e.0), e.1, rise c.requires)
 
-pub returns-then-number-ne0 : goal.returns-then-number-ne0
-returns-then-number-ne0 c =
+pub returns-in_err-data_refusal : goal.returns-in_err-data_refusal
+returns-in_err-data_refusal c =
     let g = found_by c.requires c.history-history.ensures c.valid_years-valid.ensures c.cases_of-cases.ensures c.default_years-defaults.ensures c.by_position.ensures.energies c.by_position.ensures.totals in
-    stops c.requires g c.args.curve.now c.data_refusal-number.ensures c.refused.ensures c.if-number-ne0.true
+    let e : c.from_residual.result ≡ Err c.in_err-data_refusal.field-0.0 = search rules in
+    rw e (stops c.requires g c.args.curve.now c.data_refusal.ensures c.in_err-data_refusal.was)
 
-pub fill_curve-f-requires : goal.fill_curve-f-requires
-fill_curve-f-requires c =
+pub fill-f-requires : goal.fill-f-requires
+fill-f-requires c =
     let g = found_by c.requires c.history-history.ensures c.valid_years-valid.ensures c.cases_of-cases.ensures c.default_years-defaults.ensures c.by_position.ensures.energies c.by_position.ensures.totals in
     record { site_fits = (site_fits_lem c.requires, lists c.requires g); curve_value = refl }
 
 pub store_curve-requires : goal.store_curve-requires
 store_curve-requires c =
     let g = found_by c.requires c.history-history.ensures c.valid_years-valid.ensures c.cases_of-cases.ensures c.default_years-defaults.ensures c.by_position.ensures.energies c.by_position.ensures.totals in
-    (whole c.requires g c.args.curve.now c.data_refusal-number.ensures c.if-number-ne0.false c.fill_curve-f.ensures, curve_size_lem c.requires)
+    (whole c.requires g c.args.curve.now c.data_refusal.ensures c.in_ok-data_refusal.was c.fill-f.ensures, curve_size_lem c.requires)
 
 pub returns-then-f : goal.returns-then-f
 returns-then-f c =
     let g = found_by c.requires c.history-history.ensures c.valid_years-valid.ensures c.cases_of-cases.ensures c.default_years-defaults.ensures c.by_position.ensures.energies c.by_position.ensures.totals in
-    exceeds c.requires g c.args.curve.now c.data_refusal-number.ensures c.if-number-ne0.false c.fill_curve-f.ensures c.refused-then-f.ensures c.store_curve.ensures c.if-f.true
+    exceeds c.requires g c.args.curve.now c.data_refusal.ensures c.in_ok-data_refusal.was c.fill-f.ensures c.store_curve.ensures c.if-f.true
 
 pub reported-requires : goal.reported-requires
 reported-requires c =
     let g = found_by c.requires c.history-history.ensures c.valid_years-valid.ensures c.cases_of-cases.ensures c.default_years-defaults.ensures c.by_position.ensures.energies c.by_position.ensures.totals in
-    let n = some_counted c.requires g c.args.curve.now c.data_refusal-number.ensures c.if-number-ne0.false c.fill_curve-f.ensures c.if-f.false in
-    record { first_bound = few_years c.requires c.history-history.ensures; counted_nonzero = (n, c.fill_curve-f.ensures.counted, c.fill_curve-f.ensures.sum) }
+    let n = some_counted c.requires g c.args.curve.now c.data_refusal.ensures c.in_ok-data_refusal.was c.fill-f.ensures c.if-f.false in
+    record { first_bound = few_years c.requires c.history-history.ensures; counted_nonzero = (n, c.fill-f.ensures.counted, c.fill-f.ensures.sum) }
 
 pub returns : goal.returns
 returns c =
     let g = found_by c.requires c.history-history.ensures c.valid_years-valid.ensures c.cases_of-cases.ensures c.default_years-defaults.ensures c.by_position.ensures.energies c.by_position.ensures.totals in
-    reported c.requires g c.args.curve.now c.data_refusal-number.ensures c.if-number-ne0.false c.fill_curve-f.ensures c.if-f.false c.reported.ensures c.store_curve.ensures
+    reported c.requires g c.args.curve.now c.data_refusal.ensures c.in_ok-data_refusal.was c.fill-f.ensures c.if-f.false c.reported.ensures c.store_curve.ensures

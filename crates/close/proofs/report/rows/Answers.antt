@@ -1,27 +1,24 @@
-use mathlib.Core.Path.{◌∙◌}
 use Prim.Native.Nat.{◌+◌}
 use native.Mathlib.Omega.{arith}
 use lib.ListN.{get_or}
 use Rattle.history.proofs.YearTables.{none_yet, one_more_lem, at_end}
 use Rattle.history.specs.declared.cases.Case.TheVariants.{M}
 use Rattle.close.specs.FileOutcomes.{no_year}
-use Rattle.close.specs.Ends.{no_years}
 use Rattle.close.specs.ReportRows.{row_in, rows_in}
 use Rattle.close.proofs.report.rows.Goals as goal
 
 pub loop-k-init : goal.loop-k-init
-unfolding no_years
-loop-k-init c = (omega arith, c.no_years-years.ensures ∙ none_yet no_year _)
+loop-k-init c = none_yet no_year _
 
 pub loop-k-preserved : goal.loop-k-preserved
 loop-k-preserved c =
     let l = c.loop-k in
     let a = c.args in
-    (omega arith, one_more_lem no_year (λ j. row_in (a.history.first + j) (get_or a.cases j M) (get_or a.present j 0)) l.k c.row-y.result l.years (omega arith) c.row-y.ensures l.invariant.1)
+    one_more_lem no_year (λ j. row_in (a.history.first + j) (get_or a.cases j M) (get_or a.present j 0)) l.k c.row.result l.years (omega arith) c.row.ensures l.invariant
 
 pub returns : goal.returns
 unfolding rows_in
 returns c =
     let l = c.loop-k in
     let a = c.args in
-    at_end no_year (λ j. row_in (a.history.first + j) (get_or a.cases j M) (get_or a.present j 0)) l.k a.history.count l.years l.invariant.0 c.loop-k-test.false l.invariant.1
+    at_end no_year (λ j. row_in (a.history.first + j) (get_or a.cases j M) (get_or a.present j 0)) l.k a.history.count l.years (omega arith) (omega arith) l.invariant

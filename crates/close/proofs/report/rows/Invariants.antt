@@ -1,5 +1,5 @@
 use mathlib.Core.Path.{◌≡◌}
-use Prim.Native.Nat.{◌+◌, ◌-◌, ◌≤◌}
+use Prim.Native.Nat.{◌+◌}
 use lib.ListN.{get_or}
 use Rattle.history.specs.declared.cases.Case.TheVariants.{M}
 use Rattle.history.specs.Years.{by_history}
@@ -8,7 +8,4 @@ use Rattle.close.specs.ReportRows.{row_in}
 use Rattle.close.proofs.report.rows.Given as goal
 
 abbrev pub invariant-loop-k : goal.invariant-loop-k
-invariant-loop-k l = (l.k ≤ l.n) × (l.years ≡ by_history l.k no_year (λ j. row_in (l.history.first + j) (get_or l.cases j M) (get_or l.present j 0)))
-
-abbrev pub decreases-loop-k : goal.decreases-loop-k
-decreases-loop-k l = l.n - l.k
+invariant-loop-k l = l.years ≡ by_history l.k no_year (λ j. row_in (l.history.first + j) (get_or l.cases j M) (get_or l.present j 0))

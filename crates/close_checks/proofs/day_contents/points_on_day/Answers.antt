@@ -1,31 +1,12 @@
-use mathlib.Core.Path.{refl, sym, ◌∙◌}
-use native.Mathlib.Omega.{arith}
-use Rattle.lists.proofs.AllAt.{all_on, all_end, stops, goes}
+use mathlib.Core.Path.{◌∙◌}
+use Rattle.std.proofs.Common.{rules, tests}
+use Rattle.std.proofs.lemmas.Iterator.{YieldsList-from_slice}
+use Rattle.std.proofs.lemmas.Iterator.Search.{all_from_yields_List}
+use Rattle.lists.proofs.Chains.{all_listed}
 use Rattle.meaning.specs.Record.{point_fits}
 use Rattle.close_checks.proofs.day_contents.points_on_day.Goals as goal
 
-pub loop-i-init : goal.loop-i-init
-loop-i-init c = (omega arith, refl)
-
-pub returns-then-not-point_fits : goal.returns-then-not-point_fits
-returns-then-not-point_fits c =
-    let l = c.loop-i in let a = c.args in
-    stops _ (l.invariant.1 ∙ all_on (point_fits a.dated) a.points.now l.i 0 c.loop-i-test.true) (sym c.point_fits.ensures ∙ c.if-not-point_fits.true)
-
-pub overflow_add-i : goal.overflow_add-i
-overflow_add-i c = omega arith
-
-pub loop-i-smaller : goal.loop-i-smaller
-loop-i-smaller c = omega arith
-
-pub loop-i-preserved : goal.loop-i-preserved
-loop-i-preserved c =
-    let l = c.loop-i in let a = c.args in (
-      omega arith,
-      goes _ (l.invariant.1 ∙ all_on (point_fits a.dated) a.points.now l.i 0 c.loop-i-test.true) (sym c.point_fits.ensures ∙ c.if-not-point_fits.false),
-    )
-
 pub returns : goal.returns
 returns c =
-    let l = c.loop-i in let a = c.args in
-    sym (l.invariant.1 ∙ all_end (point_fits a.dated) a.points.now l.i c.loop-i-test.false)
+    all_from_yields_List (point_fits c.args.dated) _ _ _ c.all.ensures.ran (YieldsList-from_slice c.args.points.now c.iter.ensures.rest) (λ x b q k. search (rules, tests))
+    ∙ all_listed (point_fits c.args.dated) c.args.points.now

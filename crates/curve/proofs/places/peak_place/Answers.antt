@@ -1,13 +1,14 @@
-use mathlib.Core.Path.{sym}
+use mathlib.Core.Path.{◌≡◌, ◌∙◌, ap}
+use Prim.Native.Nat.{ℕ}
+use lib.ListN.{get_or}
 use native.Mathlib.Omega.{arith}
-use Rattle.note.proofs.PeakDays.{in_winter, place_is, not_nothing}
+use Rattle.std.specs.Prelude.{Option, unwrap_or}
+use Rattle.note.specs.Peaks.{peak_days}
+use Rattle.note.proofs.PeakDays.{in_winter, day_is}
 use Rattle.curve.proofs.places.peak_place.Goals as goal
 
-pub returns-in-Place : goal.returns-in-Place
-returns-in-Place c =
-    let e = place_is c.args.year c.args.j _ c.requires (sym c.in-Place.ensures) in
+pub returns : goal.returns
+returns c =
+    let e : c.unwrap_or.result ≡ get_or (peak_days c.args.year) c.args.j 0 =
+    c.unwrap_or.ensures ∙ ap (λ (p : Option ℕ). unwrap_or p 0) (c.peak_day.ensures ∙ day_is c.args.year c.args.j c.requires) in
     record { is = e; fits = omega (arith, e, in_winter c.args.year c.args.j c.requires) }
-
-pub returns-in-Nothing : goal.returns-in-Nothing
-returns-in-Nothing c =
-    absurd (not_nothing c.args.year c.args.j c.requires (sym c.in-Nothing.ensures))

@@ -1,25 +1,19 @@
+use mathlib.Core.Bool.{cond}
 use mathlib.Core.Path.{◌∙◌}
-use native.Mathlib.Omega.{arith}
+use lib.Dec.{ltb}
+use Rattle.std.proofs.Common.{rules, tests}
 use Rattle.line_form.specs.Views.{meter_view}
+use Rattle.lists.proofs.Chains.{made_by}
 use Rattle.history.specs.declared.cases.Case.TheVariants.{M}
-use Rattle.history.specs.Cases.{mark_in}
+use Rattle.history.specs.Cases.{case_with, mark_in}
+use Rattle.history.specs.Years.{by_history}
 use Rattle.history.proofs.CaseLaws.{cases_found}
-use Rattle.history.proofs.YearTables.{none_yet, one_more_lem, at_end}
 use Rattle.history.proofs.cases.cases_of.Goals as goal
 
-pub loop-k-init : goal.loop-k-init
-loop-k-init c = (omega arith, none_yet M _)
-
-pub loop-k-preserved : goal.loop-k-preserved
-unfolding mark_in
-loop-k-preserved c =
-    let l = c.loop-k in
-    let t = c.loop-k-test.true in
-    (omega arith, one_more_lem M _ l.k c.case_of-case.result l.cases (omega (arith, t, c.requires)) c.case_of-case.ensures l.invariant.1)
-
 pub returns : goal.returns
+unfolding by_history mark_in
 returns c =
-    let l = c.loop-k in
     let a = c.args in
-    at_end M _ l.k a.n l.cases l.invariant.0 c.loop-k-test.false l.invariant.1
+    made_by _ (λ k. cond (ltb k a.n) (case_with c.is_curve-curve_meter.result c.some_valid-some_curve.result c.some_valid-some_index.result (mark_in a.valid.curves a.valid.indexes k)) M) M _ 10 _ c.from_fn.ensures.items
+    (λ x b r q k. search (rules, tests))
     ∙ cases_found (meter_view a.meter) a.n a.valid.curves a.valid.indexes _ _ _ c.is_curve-curve_meter.ensures c.some_valid-some_curve.ensures c.some_valid-some_index.ensures

@@ -1,23 +1,14 @@
-use mathlib.Core.Bool.{false}
-use native.Mathlib.Omega.{arith}
-use Rattle.history.proofs.YearTables.{none_yet, one_more_lem, at_end}
+use mathlib.Core.Bool.{false, cond}
+use lib.Dec.{ltb}
+use Rattle.std.proofs.Common.{rules, tests}
+use Rattle.lists.proofs.Chains.{made_by}
 use Rattle.history.specs.ValidYears.{is_broken, valid_index_at, valid_indexes}
+use Rattle.history.specs.Years.{by_history}
 use Rattle.history.proofs.valid.valid_indexes.Goals as goal
 
-pub loop-k-init : goal.loop-k-init
-loop-k-init c = (omega arith, none_yet false _)
-
-pub loop-k-preserved : goal.loop-k-preserved
-unfolding valid_index_at is_broken
-loop-k-preserved c =
-    let l = c.loop-k in
-    let a = c.args in
-    let t = c.loop-k-test.true in
-    (omega arith, one_more_lem false (valid_index_at a.positions.now a.kinds.now a.n a.breaks) l.k c.index_valid.result l.valid (omega (arith, t, c.requires.2)) c.index_valid.ensures l.invariant.1)
-
 pub returns : goal.returns
-unfolding valid_indexes
+unfolding valid_indexes by_history valid_index_at is_broken
 returns c =
-    let l = c.loop-k in
     let a = c.args in
-    at_end false (valid_index_at a.positions.now a.kinds.now a.n a.breaks) l.k a.years l.valid l.invariant.0 c.loop-k-test.false l.invariant.1
+    made_by _ (λ k. cond (ltb k a.years) (valid_index_at a.positions.now a.kinds.now a.n a.breaks k) false) false _ 10 _ c.from_fn.ensures.items
+    (λ x b r q k. search (rules, tests))

@@ -9,7 +9,7 @@ use Rattle.line_form.proofs.values.read_row.Goals as goal
 
 pub loop-k-init : goal.loop-k-init
 unfolding tab in_forms some_field
-loop-k-init c = (omega arith, (refl, λ l w. (refl, refl)))
+loop-k-init c = (omega arith, (c.told-codes, λ l w. (refl, refl)))
 
 pub loop-k-preserved : goal.loop-k-preserved
 loop-k-preserved c =
@@ -22,8 +22,8 @@ loop-k-preserved c =
       (
         length-set c.loop-k.codes k _ ∙ inv.1.0,
         λ l w. (
-          codes_on a.dashes c.loop-k.codes k l _ (omega arith) (said l w).0 (code_here a.dashes a.fields l w k _ _ h refl _ c.byte_of.ensures _ c.and-missing.ensures _ c.code_of.ensures),
-          c.and-formed.ensures ∙ formed_on a.dashes _ _ k l (said l w).1 (value_here a.dashes a.fields l w k _ _ h refl _ c.byte_of.ensures _ c.and-missing.ensures _ _ c.is_number.ensures c.is_value.ensures),
+          codes_on a.dashes c.loop-k.codes k l _ (omega arith) (said l w).0 (code_here a.dashes a.fields l w k _ _ h refl _ refl _ c.is_missing-missing.ensures _ c.code_of.ensures),
+          formed_on a.dashes _ _ k l (said l w).1 (value_here a.dashes a.fields l w k _ _ h refl _ refl _ c.is_missing-missing.ensures _ _ c.is_number.ensures c.is_value-formed.ensures),
         ),
       ),
     )

@@ -1,18 +1,18 @@
-use Rattle.std.proofs.Common.{◌≡◌, arith, ◌∙◌, ap, min, length}
-use Rattle.readings.specs.Readings.{letter, columns_of, positions_of, counts_of, letters_of}
-use Rattle.readings.proofs.ColumnsSoFar.{blank, blank_is, copied, copied_all}
+use Rattle.std.proofs.Common.{rules, ◌≡◌, map}
+use Rattle.readings.specs.Readings.{fresh, letter, columns_of, positions_of, counts_of, letters_of, first_readings}
+use lib.ListN.{get_or}
+use mathlib.Core.Path.{refl}
+use Rattle.readings.proofs.MadeColumns.{made}
 use Rattle.readings.proofs.reading_list.columns_of.Goals as goal
-
-pub loop-i-init : goal.loop-i-init
-loop-i-init c = record { within = omega arith; positions = blank_is 0; indexes = blank_is 0; kinds = blank_is 69 }
 
 pub returns : goal.returns
 unfolding columns_of positions_of counts_of letters_of
 returns c =
-    let ys = c.args.readings.now in
-    let n : c.loop-i.i ≡ min (length ys) 600 = omega (arith, c.loop-i.invariant.within, c.loop-i-test.false, c.at_most-n.ensures) in
-    let v = c.loop-i.invariant in
-    let p : c.loop-i.positions ≡ _ = v.positions ∙ ap (λ k. copied (λ r. r.position) ys k (blank 0)) n ∙ copied_all (λ r. r.position) ys in
-    let x : c.loop-i.indexes ≡ _ = v.indexes ∙ ap (λ k. copied (λ r. r.count) ys k (blank 0)) n ∙ copied_all (λ r. r.count) ys in
-    let k : c.loop-i.kinds ≡ _ = v.kinds ∙ ap (λ k. copied letter ys k (blank 69)) n ∙ copied_all letter ys in
-    λ i. record { positions = p i; indexes = x i; kinds = k i }
+    let rs = c.args.readings.now in
+    let p : c.from_fn.result ≡ map (λ r. r.position) (first_readings rs) =
+    made _ (λ f. f.0.now ≡ rs) (λ i. (get_or rs i fresh).position) (λ i y f g s k. search rules) (λ r. r.position) rs _ _ refl (λ i. refl) c.from_fn.ensures.items in
+    let x : c.from_fn-2.result ≡ map (λ r. r.count) (first_readings rs) =
+    made _ (λ f. f.0.now ≡ rs) (λ i. (get_or rs i fresh).count) (λ i y f g s k. search rules) (λ r. r.count) rs _ _ refl (λ i. refl) c.from_fn-2.ensures.items in
+    let l : c.from_fn-3.result ≡ map letter (first_readings rs) =
+    made _ (λ f. f.0.now ≡ rs) (λ i. letter (get_or rs i fresh)) (λ i y f g s k. search rules) letter rs _ _ refl (λ i. refl) c.from_fn-3.ensures.items in
+    λ i. record { positions = p i; indexes = x i; kinds = l i }

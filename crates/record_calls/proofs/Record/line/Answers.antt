@@ -8,6 +8,6 @@ use Rattle.record_calls.proofs.Record.line.Goals as goal
 
 pub returns : goal.returns
 returns c =
-    c.line_answer.ensures (lent_blocks c.line_of_record-outcome.new.near c.line_of_record-outcome.new.far c.line_of_record-outcome.new.slots c.line_of_record-outcome.new.daily (readings_view c.put.new.readings) c.args.curve.now)
-    ∙ ap (λ (z : List Reading). line_outcome_view c.line_of_record-outcome.result (lent_blocks c.line_of_record-outcome.new.near c.line_of_record-outcome.new.far c.line_of_record-outcome.new.slots c.line_of_record-outcome.new.daily (readings_view z) c.args.curve.now)) c.put.ensures
-    ∙ c.line_of_record-outcome.ensures c.args.readings.now c.args.curve.now refl refl
+    let o = c.apply_line-outcome in
+    ap (λ (z : List Reading). line_outcome_view o.result (lent_blocks o.new.near o.new.far o.new.slots o.new.daily (readings_view z) c.args.curve.now)) c.store.ensures
+    ∙ o.ensures c.args.readings.now c.args.curve.now refl refl

@@ -1,36 +1,17 @@
-use mathlib.Core.Path.{sym, ◌∙◌}
+use mathlib.Core.Path.{ap, ◌∙◌}
 use native.Mathlib.Omega.{arith}
-use Rattle.lists.proofs.Loops.{count_here, count_not, count_end}
+use Rattle.std.proofs.Common.{rules, tests}
+use Rattle.std.specs.List.{range_with_len}
+use Rattle.std.proofs.lemmas.Iterator.{YieldsList-from_range}
+use Rattle.std.proofs.lemmas.Iterator.Consumers.{count_from_yields_List, YieldsList-from_filter}
+use Rattle.lists.specs.Lists.{count}
 use Rattle.validity.specs.Availability.{is_present, present_on_day}
+use Rattle.lists.proofs.Chains.{count_listed, range_listed}
 use Rattle.validity.proofs.curves.present_on_day.Goals as goal
-use Rattle.validity.proofs.curves.present_on_day.Goals.{then-is_present, else-is_present}
-
-pub loop-h-init : goal.loop-h-init
-unfolding present_on_day
-loop-h-init c = (omega arith, (omega arith, omega arith))
-
-pub is_present-requires : goal.is_present-requires
-is_present-requires c = omega arith
-
-pub overflow_add-n : goal.overflow_add-n
-overflow_add-n c = omega arith
-
-pub overflow_add-h : goal.overflow_add-h
-overflow_add-h c = omega arith
-
-pub loop-h-smaller : goal.loop-h-smaller
-loop-h-smaller c = omega arith
-
-pub loop-h-preserved : goal.loop-h-preserved
-loop-h-preserved c =
-    let row = c.args.row.now in let w = c.args.w in
-    let h = c.loop-h.h in let inv = c.loop-h.invariant in
-    elim c.if-is_present.branch [
-      | then-is_present k ↦ (omega arith, (omega arith, omega (arith, inv.1.1, count_here (is_present row w) h 20 c.loop-h-test.true (sym c.is_present.ensures ∙ k.if-is_present.true))))
-      | else-is_present k ↦ (omega arith, (omega arith, omega (arith, inv.1.1, count_not (is_present row w) h 20 c.loop-h-test.true (sym c.is_present.ensures ∙ k.if-is_present.false))))
-    ]
 
 pub returns : goal.returns
+unfolding present_on_day
 returns c =
-    let row = c.args.row.now in let w = c.args.w in
-    omega (arith, c.loop-h.invariant.1.1, count_end (is_present row w) c.loop-h.h 20 c.loop-h-test.false)
+    let p = is_present c.args.row.now c.args.w in
+    count_from_yields_List _ _ c.count.ensures.ran (YieldsList-from_filter _ p (YieldsList-from_range 0 20 20 (cc) (omega arith)) c.filter.ensures.closure (λ x r q k. search (rules, tests)))
+    ∙ count_listed p (range_with_len 0 20) ∙ ap (count p) (range_listed 0 20)

@@ -1,33 +1,16 @@
-use mathlib.Core.Path.{refl, sym, ◌∙◌}
-use native.Mathlib.Omega.{arith}
-use Rattle.lists.proofs.AllAt.{all_at_on, all_at_end, stops, goes}
+use mathlib.Core.Path.{◌∙◌}
+use Rattle.std.proofs.Common.{rules, tests}
+use Rattle.std.proofs.lemmas.Iterator.{YieldsList-from_slice}
+use Rattle.std.proofs.lemmas.Iterator.Consumers.{YieldsList-from_enumerate}
+use Rattle.std.proofs.lemmas.Iterator.Search.{all_from_yields_List}
+use Rattle.lists.proofs.Chains.{all_numbered}
 use Rattle.meaning.specs.Record.{daily_fits}
 use Rattle.close_checks.specs.Axis.{placed_at, day_fits}
 use Rattle.close_checks.proofs.contents.axis_blocks.daily_fit.Goals as goal
 
-pub loop-i-init : goal.loop-i-init
-unfolding daily_fits day_fits placed_at
-loop-i-init c = (omega arith, refl)
-
-pub returns-then-not-day_fits : goal.returns-then-not-day_fits
-returns-then-not-day_fits c =
-    let l = c.loop-i in let a = c.args in
-    stops _ (l.invariant.1 ∙ all_at_on (day_fits a.axis) a.daily.now l.i 0 c.loop-i-test.true) (sym c.day_fits.ensures ∙ c.if-not-day_fits.true)
-
-pub overflow_add-i : goal.overflow_add-i
-overflow_add-i c = omega arith
-
-pub loop-i-smaller : goal.loop-i-smaller
-loop-i-smaller c = omega arith
-
-pub loop-i-preserved : goal.loop-i-preserved
-loop-i-preserved c =
-    let l = c.loop-i in let a = c.args in (
-      omega arith,
-      goes _ (l.invariant.1 ∙ all_at_on (day_fits a.axis) a.daily.now l.i 0 c.loop-i-test.true) (sym c.day_fits.ensures ∙ c.if-not-day_fits.false),
-    )
-
 pub returns : goal.returns
+unfolding daily_fits day_fits placed_at
 returns c =
-    let l = c.loop-i in let a = c.args in
-    sym (l.invariant.1 ∙ all_at_end (day_fits a.axis) a.daily.now l.i c.loop-i-test.false)
+    let a = c.args in
+    all_from_yields_List (λ y. day_fits a.axis y.0 y.1) _ _ _ c.all.ensures.ran (YieldsList-from_enumerate (YieldsList-from_slice a.daily.now (cc)) (cc)) (λ x b q k. search (rules, tests))
+    ∙ all_numbered (day_fits a.axis) 0 a.daily.now

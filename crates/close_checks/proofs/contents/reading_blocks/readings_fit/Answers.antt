@@ -51,12 +51,6 @@ returns-then-x-index c =
 pub overflow_add-least : goal.overflow_add-least
 overflow_add-least c = omega (arith, c.type_inv.positions c.loop-k.k)
 
-pub overflow_add-k : goal.overflow_add-k
-overflow_add-k c = omega (arith, c.ranges)
-
-pub loop-k-smaller : goal.loop-k-smaller
-loop-k-smaller c = omega arith
-
 pub loop-k-preserved : goal.loop-k-preserved
 loop-k-preserved c =
     let l = c.loop-k in

@@ -1,5 +1,5 @@
 use mathlib.Core.Path.{◌≡◌}
-use Prim.Native.Nat.{◌-◌, ◌≤◌}
+use Prim.Native.Nat.{◌≤◌}
 use Rattle.meaning.specs.Record.{readings_fit}
 use Rattle.readings.specs.Columns.{readings_in}
 use Rattle.close_checks.proofs.Columns.{left}
@@ -8,6 +8,3 @@ use Rattle.close_checks.proofs.contents.reading_blocks.readings_fit.Given as goa
 abbrev pub invariant-loop-k : goal.invariant-loop-k
 invariant-loop-k l =
     (l.k ≤ l.n) × (readings_fit l.axis (readings_in l.positions l.indexes l.kinds l.n) ≡ left l.axis l.positions l.indexes l.kinds l.n l.least l.index l.k)
-
-abbrev pub decreases-loop-k : goal.decreases-loop-k
-decreases-loop-k l = l.n - l.k

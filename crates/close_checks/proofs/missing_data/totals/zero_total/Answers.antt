@@ -1,40 +1,14 @@
-use mathlib.Core.Path.{refl, sym, ◌∙◌}
-use native.Mathlib.Omega.{arith}
-use lib.ListN.{get_or}
-use borrow.Author.Count.{below_more}
-use mathlib.Core.Bool.{false, ◌&&◌}
-use Rattle.validity.specs.Columns.{year_start}
-use Rattle.close_checks.specs.Totals.{some_in, some_winter, totals_zero}
-use Rattle.lists.proofs.Ranges.{any_found, any_none}
+use mathlib.Core.Bool.{◌&&◌}
+use mathlib.Core.Path.{◌∙◌}
+use Prim.Native.Nat.{◌-◌}
+use Rattle.std.proofs.Common.{rules, tests}
+use Rattle.lists.proofs.Chains.{any_below}
+use Rattle.close_checks.specs.Totals.{is_profiled, totals_zero}
+use Rattle.close_checks.proofs.Profiled.{profiled_some}
 use Rattle.close_checks.proofs.missing_data.totals.zero_total.Goals as goal
 
-pub loop-k-init : goal.loop-k-init
-loop-k-init c = (refl, omega arith, λ j h. absurd (omega arith))
-
-pub zero_of-requires : goal.zero_of-requires
-zero_of-requires c = (c.requires.0, omega arith)
-
-pub returns-then-zero_of : goal.returns-then-zero_of
-unfolding some_winter
-returns-then-zero_of c =
-    let a = c.args in
-    let ps = a.positions.now in
-    any_found (λ j. get_or a.valid j false && some_in ps a.n (totals_zero ps a.totals.now) (year_start j)) a.count c.loop-k.k (omega arith) (sym c.zero_of.ensures ∙ c.if-zero_of.true)
-
-pub overflow_add-k : goal.overflow_add-k
-overflow_add-k c = omega arith
-
-pub loop-k-smaller : goal.loop-k-smaller
-loop-k-smaller c = omega arith
-
-pub loop-k-preserved : goal.loop-k-preserved
-loop-k-preserved c =
-    let inv = c.loop-k.invariant in
-    (inv.0, omega arith, below_more _ _ inv.2 (sym c.zero_of.ensures ∙ c.if-zero_of.false))
-
 pub returns : goal.returns
-unfolding some_winter
 returns c =
     let a = c.args in
-    let ps = a.positions.now in
-    any_none (λ j. get_or a.valid j false && some_in ps a.n (totals_zero ps a.totals.now) (year_start j)) a.count (λ j h. c.loop-k.invariant.2 j (omega arith))
+    let p = totals_zero a.positions.now a.totals.now in
+    any_below (λ i. is_profiled a.count a.valid a.positions.now i && p i) (a.n - 1) _ _ _ c.any.ensures.ran (cc) (λ x b q k. search (rules, tests)) ∙ profiled_some a.count a.valid a.positions.now a.n p

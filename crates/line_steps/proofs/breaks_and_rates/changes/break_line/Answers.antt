@@ -1,48 +1,48 @@
-use mathlib.Core.Path.{◌≡◌, ◌∙◌}
-use native.Mathlib.Omega.{arith}
+use mathlib.Core.Path.{◌≡◌, sym, ◌∙◌}
+use Rattle.std.proofs.lemmas.Result.{err_from_is_err_and}
 use Rattle.progress.specs.ProgressViews.{open_rec}
-use Rattle.progress.specs.Steps.{no_block}
-use Rattle.progress.proofs.Steps.{answered, step_refused}
-use Rattle.progress.proofs.Rows.{Row}
-use Rattle.progress.proofs.UndatedLines.{took_b}
+use Rattle.std.specs.Prelude.{Result, Ok, ℕ}
+use native.Mathlib.Omega.{arith}
 use Rattle.calendar.specs.declared.Years.{Years}
 use Rattle.calendar.specs.Spans.{history_years}
-use Rattle.meaning.specs.Line.{B}
+use Rattle.meaning.specs.Line.{B, year_on}
 use Rattle.meaning.specs.Refusals.{refusal}
+use Rattle.refusals.specs.declared.Refusal.{Refusal}
+use Rattle.refusals.specs.Refusals.{unless_reason}
 use Rattle.line_form.specs.declared.Fields.{Fields}
 use Rattle.line_checks.specs.Before.{EachTagged, SomeTagged, before_rising}
+use Rattle.progress.specs.Steps.{no_block}
 use Rattle.progress.specs.declared.Progress.{Progress}
-use Rattle.line_steps.specs.Answers.{year_checked}
-use Rattle.line_steps.specs.declared.breaks_and_rates.checks.YearChecked.{YearChecked}
-use Rattle.line_steps.proofs.YearSteps.{break_number, break_none, break_year, break_history, break_place}
+use Rattle.progress.proofs.Steps.{step_refused}
+use Rattle.progress.proofs.Rows.{Row}
+use Rattle.progress.proofs.UndatedLines.{took_b}
+use Rattle.line_steps.proofs.YearSteps.{break_seen, break_none, break_year, break_history, break_place}
 use Rattle.line_steps.proofs.breaks_and_rates.changes.break_line.Goals as goal
 
-pub returns-then-number-ne0 : goal.returns-then-number-ne0
-returns-then-number-ne0 c l told k =
+pub returns-in_err-year : goal.returns-in_err-year
+returns-in_err-year c l told k =
     λ n. let s = open_rec n c.args.progress in
-    let w = no_block in
-    answered n w c.no_reading.result _ _ c.no_reading.ensures
-    ∙ step_refused s l w _ (break_number s l k _ (c.check_break-checked.ensures l told k)) c.if-number-ne0.true
+    let p = err_from_is_err_and c.from_residual.result c.from_residual.ensures.1 in
+    rw (p.1, p.2) (step_refused s l (no_block) _ _ (sym c.in_err-year.was ∙ break_seen s l k _ (c.check_break.ensures l told k)))
 
 -- the row of the year
-row : (p : Progress) (f : Fields) (j : YearChecked) (h : Years) → SomeTagged B f
-    → EachTagged B f (λ l. j ≡ year_checked (refusal (before_rising p.last (history_years p.site.al p.site.filiere) p.lasts.b) l) l)
-    → j.number ≡ 0 → h ≡ history_years p.site.al p.site.filiere → Row h.first j.year 10
-row p f j h t e z = break_place (open_rec 0 p) t.0 t.2 j (e t.0 t.1 t.2) z h
+row : (p : Progress) (f : Fields) (r : Result ℕ Refusal) (v : ℕ) (h : Years) → SomeTagged B f
+    → EachTagged B f (λ l. r ≡ unless_reason (refusal (before_rising p.last (history_years p.site.al p.site.filiere) p.lasts.b) l) (year_on l))
+    → r ≡ Ok v → h ≡ history_years p.site.al p.site.filiere → Row h.first v 10
+row p f r v h t e q z = break_place (open_rec 0 p) t.0 t.2 r (e t.0 t.1 t.2) v q h z
 
 pub overflow_sub-i : goal.overflow_sub-i
-overflow_sub-i c = (row c.args.progress c.args.fields c.check_break-checked.result c.history-years.result c.requires c.check_break-checked.ensures c.if-number-ne0.false c.history-years.ensures).from
+overflow_sub-i c = (row c.args.progress c.args.fields _ _ _ c.requires c.check_break.ensures c.in_ok-year.was c.history-years.ensures).from
 
-pub offset_bounds-tallies-i : goal.offset_bounds-tallies-i
-offset_bounds-tallies-i c = omega (arith, (row c.args.progress c.args.fields c.check_break-checked.result c.history-years.result c.requires c.check_break-checked.ensures c.if-number-ne0.false c.history-years.ensures).below)
+pub offset_bounds-progress-i : goal.offset_bounds-progress-i
+offset_bounds-progress-i c = omega (arith, (row c.args.progress c.args.fields _ _ _ c.requires c.check_break.ensures c.in_ok-year.was c.history-years.ensures).below)
 
-pub bounds-tallies-i : goal.bounds-tallies-i
-bounds-tallies-i c = omega (arith, (row c.args.progress c.args.fields c.check_break-checked.result c.history-years.result c.requires c.check_break-checked.ensures c.if-number-ne0.false c.history-years.ensures).below)
+pub bounds-progress-i : goal.bounds-progress-i
+bounds-progress-i c = omega (arith, (row c.args.progress c.args.fields _ _ _ c.requires c.check_break.ensures c.in_ok-year.was c.history-years.ensures).below)
 
 pub returns : goal.returns
 returns c l told k =
-    let e = c.check_break-checked.ensures l told k in
-    let z = c.if-number-ne0.false in
+    let e = c.check_break.ensures l told k in
+    let q = c.in_ok-year.was in
     λ n. let s = open_rec n c.args.progress in
-    answered n no_block c.no_reading-2.result _ _ c.no_reading-2.ensures
-    ∙ rw c.rank.ensures (took_b s l (break_none s l k _ e z) k.tag c.history-years.result _ (c.history-years.ensures ∙ break_history s l k _ e z) (break_year s l k _ e z))
+    rw c.rank.ensures (took_b s l (break_none s l k _ e _ q) k.tag c.history-years.result _ (c.history-years.ensures ∙ break_history s l k _ e _ q) (break_year s l k _ e _ q))

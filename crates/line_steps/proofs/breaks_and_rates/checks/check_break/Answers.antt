@@ -1,21 +1,13 @@
-use mathlib.Core.Path.{◌≡◌, ◌∙◌}
-use Rattle.calendar.specs.Spans.{history_years}
-use Rattle.meaning.specs.Line.{B}
-use Rattle.meaning.specs.Refusals.{refusal}
-use Rattle.line_checks.specs.Before.{EachTagged, before_rising}
-use Rattle.line_checks.specs.Order.{number_by}
-use Rattle.line_steps.proofs.Checked.{year_refused, year_taken}
-use Rattle.line_checks.proofs.ByTag.{break_number, break_year}
+use mathlib.Core.Path.{sym, ◌∙◌}
+use Rattle.std.proofs.lemmas.Result.{err_from_is_err_and}
+use Rattle.line_checks.proofs.ByTag.{break_told}
 use Rattle.line_steps.proofs.breaks_and_rates.checks.check_break.Goals as goal
-use Rattle.line_steps.proofs.breaks_and_rates.checks.check_break.Goals.{After-first_refusal-number}
 
-number : (c : After-first_refusal-number) → let a = c.args in EachTagged B a.fields (λ l. c.first_refusal-number.result ≡ number_by (refusal (before_rising a.last (history_years a.al a.filiere) a.latest) l))
-number c l w k =
-    break_number _ _ _ _ _ k c.read_year-r.result c.history.result _ _ _ _ (c.read_year-r.ensures l w) c.is_misplaced-misplaced.ensures c.history.ensures c.is_among-inside.ensures c.is_not_later.ensures (c.first_refusal-number.ensures ∙ rw c.common_checks-checks.ensures)
+pub returns-in_err-year : goal.returns-in_err-year
+returns-in_err-year c l w k = let p = err_from_is_err_and c.from_residual.result c.from_residual.ensures.1 in rw (p.1, p.2, break_told l c.args.last c.args.al c.args.filiere c.args.latest k, sym (rw (c.is_misplaced.ensures, c.read_year.ensures l w) at c.in_order.ensures) ∙ c.in_err-year.was)
 
-pub returns-then-number-ne0 : goal.returns-then-number-ne0
-returns-then-number-ne0 c l w k = year_refused _ _ _ (number c.before l w k) c.if-number-ne0.true
+pub returns-in_err-rising_checks : goal.returns-in_err-rising_checks
+returns-in_err-rising_checks c l w k = let p = err_from_is_err_and c.from_residual-in_err-rising_checks.result c.from_residual-in_err-rising_checks.ensures.1 in rw (p.1, p.2, break_told l c.args.last c.args.al c.args.filiere c.args.latest k, sym (rw (c.is_misplaced.ensures, c.read_year.ensures l w) at c.in_order.ensures) ∙ c.in_ok-year.was, sym (rw c.is_year_outside-outside.ensures at c.rising_checks.ensures) ∙ c.in_err-rising_checks.was)
 
 pub returns : goal.returns
-returns c l w k =
-    year_taken _ _ _ (number c.before l w k) c.read_year-r.result.year c.if-number-ne0.false (break_year _ _ _ _ _ k c.read_year-r.result (c.read_year-r.ensures l w))
+returns c l w k = rw (break_told l c.args.last c.args.al c.args.filiere c.args.latest k, sym (rw (c.is_misplaced.ensures, c.read_year.ensures l w) at c.in_order.ensures) ∙ c.in_ok-year.was, sym (rw c.is_year_outside-outside.ensures at c.rising_checks.ensures) ∙ c.in_ok-rising_checks.was)

@@ -1,21 +1,13 @@
-use mathlib.Core.Path.{◌≡◌, ◌∙◌}
-use Rattle.calendar.specs.Spans.{history_years}
-use Rattle.meaning.specs.Line.{R}
-use Rattle.meaning.specs.Refusals.{refusal}
-use Rattle.line_checks.specs.Before.{EachTagged, before_rising}
-use Rattle.line_checks.specs.Order.{number_by}
-use Rattle.line_steps.proofs.Checked.{rate_refused, rate_taken}
-use Rattle.line_checks.proofs.ByTag.{rate_number, rate_numbers}
+use mathlib.Core.Path.{sym, ◌∙◌}
+use Rattle.std.proofs.lemmas.Result.{err_from_is_err_and}
+use Rattle.line_checks.proofs.ByTag.{rate_told}
 use Rattle.line_steps.proofs.breaks_and_rates.checks.check_rate.Goals as goal
-use Rattle.line_steps.proofs.breaks_and_rates.checks.check_rate.Goals.{After-first_refusal-number}
 
-number : (c : After-first_refusal-number) → let a = c.args in EachTagged R a.fields (λ l. c.first_refusal-number.result ≡ number_by (refusal (before_rising a.last (history_years a.al a.filiere) a.latest) l))
-number c l w k =
-    rate_number _ _ _ _ _ k c.read_rate-r.result c.history.result _ _ _ _ _ _ (c.read_rate-r.ensures l w) c.is_misplaced-misplaced.ensures c.history.ensures c.is_among.ensures c.is_within.ensures c.and-inside.ensures c.is_not_later.ensures (c.first_refusal-number.ensures ∙ rw c.common_checks-checks.ensures)
+pub returns-in_err-read : goal.returns-in_err-read
+returns-in_err-read c l w k = let p = err_from_is_err_and c.from_residual.result c.from_residual.ensures.1 in rw (p.1, p.2, rate_told l c.args.last c.args.al c.args.filiere c.args.latest k, sym (rw (c.is_misplaced.ensures, c.read_rate.ensures l w) at c.in_order.ensures) ∙ c.in_err-read.was)
 
-pub returns-then-number-ne0 : goal.returns-then-number-ne0
-returns-then-number-ne0 c l w k = rate_refused _ _ _ (number c.before l w k) c.if-number-ne0.true
+pub returns-in_err-rising_checks : goal.returns-in_err-rising_checks
+returns-in_err-rising_checks c l w k = let p = err_from_is_err_and c.from_residual-in_err-rising_checks.result c.from_residual-in_err-rising_checks.ensures.1 in rw (p.1, p.2, rate_told l c.args.last c.args.al c.args.filiere c.args.latest k, sym (rw (c.is_misplaced.ensures, c.read_rate.ensures l w) at c.in_order.ensures) ∙ c.in_ok-read.was, sym (rw c.is_rate_outside-outside.ensures at c.rising_checks.ensures) ∙ c.in_err-rising_checks.was)
 
 pub returns : goal.returns
-returns c l w k =
-    rate_taken _ _ _ (number c.before l w k) c.read_rate-r.result.year c.read_rate-r.result.rate c.if-number-ne0.false (rate_numbers _ _ _ _ _ k c.read_rate-r.result (c.read_rate-r.ensures l w))
+returns c l w k = rw (rate_told l c.args.last c.args.al c.args.filiere c.args.latest k, sym (rw (c.is_misplaced.ensures, c.read_rate.ensures l w) at c.in_order.ensures) ∙ c.in_ok-read.was, sym (rw c.is_rate_outside-outside.ensures at c.rising_checks.ensures) ∙ c.in_ok-rising_checks.was)

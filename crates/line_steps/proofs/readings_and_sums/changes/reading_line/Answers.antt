@@ -1,18 +1,18 @@
-use mathlib.Core.Path.{◌∙◌}
-use native.Mathlib.Omega.{arith}
+use mathlib.Core.Path.{sym, ◌∙◌}
+use Rattle.std.proofs.lemmas.Result.{err_from_is_err_and}
 use Rattle.progress.specs.ProgressViews.{open_rec}
+use native.Mathlib.Omega.{arith}
 use Rattle.progress.specs.Steps.{no_block}
-use Rattle.progress.proofs.Steps.{answered, step_refused}
+use Rattle.progress.proofs.Steps.{step_refused}
 use Rattle.progress.proofs.DatedLines.{reading_place, took_x}
-use Rattle.line_steps.proofs.ReadingSteps.{reading_number, reading_none, reading_say}
+use Rattle.line_steps.proofs.ReadingSteps.{reading_seen, reading_none, reading_say}
 use Rattle.line_steps.proofs.readings_and_sums.changes.reading_line.Goals as goal
 
-pub returns-then-number-ne0 : goal.returns-then-number-ne0
-returns-then-number-ne0 c l told k =
+pub returns-in_err-checked : goal.returns-in_err-checked
+returns-in_err-checked c l told k =
     λ n. let s = open_rec n c.args.progress in
-    let w = no_block in
-    answered n w c.no_reading.result _ _ c.no_reading.ensures
-    ∙ step_refused s l w _ (reading_number s l k _ (c.check_reading-checked.ensures l told k)) c.if-number-ne0.true
+    let p = err_from_is_err_and c.from_residual.result c.from_residual.ensures.1 in
+    rw (p.1, p.2) (step_refused s l (no_block) _ _ (sym c.in_err-checked.was ∙ reading_seen s l k _ (c.check_reading.ensures l told k)))
 
 pub overflow_add-progress : goal.overflow_add-progress
 overflow_add-progress c =
@@ -20,11 +20,21 @@ overflow_add-progress c =
     let told = c.requires.1 in
     let k = c.requires.2 in
     let s = open_rec 0 c.args.progress in
-    omega (arith, (reading_place s l (reading_none s l k _ (c.check_reading-checked.ensures l told k) c.if-number-ne0.false) k.tag).1)
+    omega (arith, (reading_place s l (reading_none s l k _ (c.check_reading.ensures l told k) _ c.in_ok-checked.was) k.tag).1)
+
+pub overflow_cast-reading : goal.overflow_cast-reading
+overflow_cast-reading c =
+    let l = c.requires.0 in
+    let told = c.requires.1 in
+    let k = c.requires.2 in
+    let s = open_rec 0 c.args.progress in
+    let e = c.check_reading.ensures l told k in
+    let q = c.in_ok-checked.was in
+    omega (arith, (reading_place s l (reading_none s l k _ e _ q) k.tag).0, (reading_say s l k _ e _ q).0)
 
 pub returns : goal.returns
 returns c l told k =
-    let e = c.check_reading-checked.ensures l told k in
-    let z = c.if-number-ne0.false in
+    let e = c.check_reading.ensures l told k in
+    let q = c.in_ok-checked.was in
     λ n. let s = open_rec n c.args.progress in
-    rw c.rank.ensures (took_x s l (reading_none s l k _ e z) k.tag _ _ _ _ (reading_say s l k _ e z))
+    rw c.rank.ensures (took_x s l (reading_none s l k _ e _ q) k.tag _ _ _ _ (reading_say s l k _ e _ q))

@@ -1,22 +1,20 @@
-use mathlib.Core.Path.{◌∙◌}
+use mathlib.Core.Path.{sym, ◌∙◌}
+use Rattle.std.proofs.lemmas.Result.{err_from_is_err_and}
 use Rattle.progress.specs.ProgressViews.{open_rec}
 use Rattle.progress.specs.Steps.{no_block}
-use Rattle.progress.proofs.Steps.{answered, step_refused}
+use Rattle.progress.proofs.Steps.{step_refused}
 use Rattle.progress.proofs.UndatedLines.{took_s}
-use Rattle.line_steps.proofs.SiteSteps.{site_number, site_none, site_site}
+use Rattle.line_steps.proofs.SiteSteps.{site_seen, site_taken}
 use Rattle.line_steps.proofs.site_and_end.changes.site_line.Goals as goal
 
-pub returns-then-number-ne0 : goal.returns-then-number-ne0
-returns-then-number-ne0 c l told k =
+pub returns-in_err-progress : goal.returns-in_err-progress
+returns-in_err-progress c l told k =
     λ n. let s = open_rec n c.args.progress in
-    let w = no_block in
-    answered n w c.no_reading.result _ _ c.no_reading.ensures
-    ∙ step_refused s l w _ (site_number s l k _ (c.check_site-checked.ensures l told k)) c.if-number-ne0.true
+    let p = err_from_is_err_and c.from_residual.result c.from_residual.ensures.1 in
+    rw (p.1, p.2) (step_refused s l (no_block) _ _ (sym c.in_err-progress.was ∙ site_seen s l k _ (c.check_site.ensures l told k)))
 
 pub returns : goal.returns
 returns c l told k =
-    let e = c.check_site-checked.ensures l told k in
-    let z = c.if-number-ne0.false in
     λ n. let s = open_rec n c.args.progress in
-    answered n no_block c.no_reading-2.result _ _ c.no_reading-2.ensures
-    ∙ rw c.rank.ensures (took_s s l (site_none s l k _ e z) k.tag _ (site_site s l k _ e z))
+    let t = site_taken s l k _ (c.check_site.ensures l told k) _ c.in_ok-progress.was in
+    rw c.rank.ensures (took_s s l t.0 k.tag _ t.1)

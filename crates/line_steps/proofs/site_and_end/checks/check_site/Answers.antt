@@ -1,20 +1,16 @@
-use mathlib.Core.Path.{◌≡◌, ◌∙◌}
-use Rattle.meaning.specs.Line.{S}
-use Rattle.meaning.specs.Refusals.{refusal}
-use Rattle.line_checks.specs.Before.{EachTagged, before_first}
-use Rattle.line_checks.specs.Order.{number_by}
-use Rattle.line_steps.proofs.Checked.{site_refused, site_taken}
-use Rattle.line_checks.proofs.ByTag.{site_number, site_is}
+use mathlib.Core.Path.{sym, ◌∙◌}
+use Rattle.std.proofs.lemmas.Result.{err_from_is_err_and}
+use Rattle.line_checks.proofs.ByTag.{site_told}
 use Rattle.line_steps.proofs.site_and_end.checks.check_site.Goals as goal
-use Rattle.line_steps.proofs.site_and_end.checks.check_site.Goals.{After-first_refusal-number}
 
-number : (c : After-first_refusal-number) → let a = c.args in EachTagged S a.fields (λ l. c.first_refusal-number.result ≡ number_by (refusal (before_first a.last) l))
-number c l w k =
-    site_number _ _ k c.read_site-r.result _ _ _ _ _ _ _ (c.read_site-r.ensures l w) c.is_within.ensures c.is_within-2.ensures c.and-numbers.ensures c.is_within-3.ensures c.and-inside.ensures c.is_too_soon.ensures (c.first_refusal-number.ensures ∙ rw c.common_checks-checks.ensures)
+pub returns-in_err-site : goal.returns-in_err-site
+returns-in_err-site c l w k = let p = err_from_is_err_and c.from_residual.result c.from_residual.ensures.1 in rw (p.1, p.2, site_told l c.args.last k, sym (rw (c.read_site.ensures l w) at c.in_order.ensures) ∙ c.in_err-site.was)
 
-pub returns-then-number-ne0 : goal.returns-then-number-ne0
-returns-then-number-ne0 c l w k = site_refused _ _ _ (number c.before l w k) c.if-number-ne0.true
+pub returns-in_err-refuse_if : goal.returns-in_err-refuse_if
+returns-in_err-refuse_if c l w k = let p = err_from_is_err_and c.from_residual-in_err-refuse_if.result c.from_residual-in_err-refuse_if.ensures.1 in rw (p.1, p.2, site_told l c.args.last k, sym (rw (c.read_site.ensures l w) at c.in_order.ensures) ∙ c.in_ok-site.was, sym (rw c.is_site_outside.ensures at c.refuse_if.ensures) ∙ c.in_err-refuse_if.was)
+
+pub returns-in_err-refuse_if-2 : goal.returns-in_err-refuse_if-2
+returns-in_err-refuse_if-2 c l w k = let p = err_from_is_err_and c.from_residual-in_err-refuse_if-2.result c.from_residual-in_err-refuse_if-2.ensures.1 in rw (p.1, p.2, site_told l c.args.last k, sym (rw (c.read_site.ensures l w) at c.in_order.ensures) ∙ c.in_ok-site.was, sym (rw c.is_site_outside.ensures at c.refuse_if.ensures) ∙ c.in_ok-refuse_if.was, sym (rw c.is_too_soon.ensures at c.refuse_if-2.ensures) ∙ c.in_err-refuse_if-2.was)
 
 pub returns : goal.returns
-returns c l w k =
-    site_taken _ _ _ (number c.before l w k) c.read_site-r.result.site c.if-number-ne0.false (site_is _ _ k c.read_site-r.result (c.read_site-r.ensures l w))
+returns c l w k = rw (site_told l c.args.last k, sym (rw (c.read_site.ensures l w) at c.in_order.ensures) ∙ c.in_ok-site.was, sym (rw c.is_site_outside.ensures at c.refuse_if.ensures) ∙ c.in_ok-refuse_if.was, sym (rw c.is_too_soon.ensures at c.refuse_if-2.ensures) ∙ c.in_ok-refuse_if-2.was)

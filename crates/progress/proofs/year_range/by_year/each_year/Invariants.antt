@@ -1,13 +1,14 @@
 use mathlib.Core.Path.{◌≡◌}
-use Prim.Native.Nat.{◌-◌, ◌≤◌}
-use lib.ListN.{length, drop}
+use mathlib.Core.Bool.{Bool}
+use Prim.Native.Nat.{ℕ, ◌+◌, ◌≤◌}
+use lib.ListN.{drop}
 use Rattle.lists.specs.Lists.{all_at}
-use Rattle.progress.specs.YearRanges.{place_number_fits}
+use Rattle.progress.specs.YearTests.{Tests}
+use Rattle.progress.proofs.YearPlaces.{fits_at}
 use Rattle.progress.proofs.year_range.by_year.each_year.Given as goal
 
+-- for every range that the test says: all numbers are in it where those from k on are
 abbrev pub invariant-loop-k : goal.invariant-loop-k
-invariant-loop-k l =
-    (l.k ≤ length l.ns) × (all_at (place_number_fits l.span l.what) 0 l.ns ≡ all_at (place_number_fits l.span l.what) l.k (drop l.k l.ns))
-
-abbrev pub decreases-loop-k : goal.decreases-loop-k
-decreases-loop-k l = length l.ns - l.k
+invariant-loop-k g l =
+    (range : ℕ → ℕ → Bool) → Tests (goal.F-post g l.fits) range → l.span.first + l.span.count ≤ 9999
+    → all_at (fits_at l.span range) 0 l.ns ≡ all_at (fits_at l.span range) l.k (drop l.k l.ns)

@@ -1,15 +1,18 @@
-use mathlib.Core.Path.{sym, ◌∙◌, ap}
+use mathlib.Core.Path.{◌≡◌, ◌∙◌}
+use Prim.Native.Nat.{ℕ, ◌<◌}
 use native.Mathlib.Omega.{arith}
-use Rattle.calendar.specs.Dates.{is_winter}
-use Rattle.calendar.proofs.Laws.Answers.{day_of_lem, day_nowhere}
+use borrow.Author.Tests.{lt-ltb}
+use Rattle.std.specs.Prelude.{Some}
+use Rattle.std.proofs.lemmas.Grind.{common_steps}
+use Rattle.calendar.specs.Places.{month_of, day_of}
+use Rattle.calendar.specs.Answers.{a_day, day_at}
 use Rattle.progress.proofs.year_range.last_dates.is_winter_place.Goals as goal
 
-pub returns-in-Of : goal.returns-in-Of
-returns-in-Of c =
-    let p = c.args.place in
-    c.is_winter.ensures ∙ ap is_winter (sym (day_of_lem p _ _ (sym c.day_at.ensures ∙ c.in-Of.is)).1)
+there : (p : ℕ) → p < 366 → day_at p ≡ Some (a_day (month_of p) (day_of p))
+unfolding day_at
+there p h = rw (lt-ltb p 366 h)
 
-pub returns-in-Nowhere : goal.returns-in-Nowhere
-returns-in-Nowhere c =
-    let p = c.args.place in
-    absurd (omega (arith, day_nowhere p (sym c.day_at.ensures ∙ c.in-Nowhere.is)))
+pub returns : goal.returns
+returns c =
+    let e : c.day_at.result ≡ Some (a_day (month_of c.args.place) (day_of c.args.place)) = c.day_at.ensures ∙ there c.args.place c.requires in
+    grind (arith, common_steps, e)

@@ -1,31 +1,17 @@
-use mathlib.Core.Path.{◌∙◌, ap}
+use mathlib.Core.Path.{◌≡◌, ap, refl, sym, ◌∙◌}
 use native.Mathlib.Omega.{arith}
-use Prim.Native.Nat.{ℕ}
-use lib.ListN.{set}
+use Prim.Native.Nat.{ℕ, ◌-◌}
+use lib.ListN.{replicate, length-replicate}
+use Rattle.std.proofs.Common.{rules, tests}
+use Rattle.std.proofs.lemmas.Slice.{put_mid-paste}
+use borrow.Rule.Slice.PartMut.{mid_len}
 use Rattle.validity.specs.Steps.{filled}
-use Rattle.validity.proofs.Fills.{filled_none, filled_more}
+use Rattle.validity.proofs.Fills.{filled_by}
 use Rattle.validity.proofs.intervals.days.fill.Goals as goal
-
-pub loop-p-init : goal.loop-p-init
-loop-p-init c = (omega arith, omega arith, filled_none c.args.places.now c.args.a c.args.v c.requires.2)
-
-pub bounds-places-p : goal.bounds-places-p
-bounds-places-p c = omega arith
-
-pub overflow_add-p : goal.overflow_add-p
-overflow_add-p c = omega arith
-
-pub loop-p-smaller : goal.loop-p-smaller
-loop-p-smaller c = omega arith
-
-pub loop-p-preserved : goal.loop-p-preserved
-loop-p-preserved c =
-    let l = c.loop-p in
-    let a = c.args in
-    (omega arith, omega arith, ap (λ (xs : _). set xs l.p a.v) l.invariant.2 ∙ filled_more a.places.now a.a l.p a.v (omega arith) (omega arith))
 
 pub returns : goal.returns
 returns c =
-    let l = c.loop-p in
-    let a = c.args in
-    l.invariant.2 ∙ ap (λ (p : ℕ). filled a.places.now a.a p a.v) (omega arith)
+    let a = c.args.a in let b = c.args.b in let v = c.args.v in let xs = c.args.places.now in
+    let e : c.fill.new.self ≡ replicate (b - a) v = c.fill.ensures.after (λ y e. search (rules, tests)) ∙ ap (λ (n : ℕ). replicate n v) (mid_len a b xs (omega arith)) in
+    put_mid-paste a (b - a) xs c.fill.new.self (replicate (b - a) v) (b - a) e refl (sym (length-replicate (b - a) v))
+    ∙ filled_by xs a v (b - a) c.requires.2 (omega arith) ∙ ap (λ (p : ℕ). filled xs a p v) (omega arith)

@@ -1,7 +1,0 @@
-use Rattle.line_form.specs.Codes.{is_point_outside}
-use Rattle.line_form.specs.Rows.{is_above}
-use Rattle.line_checks.proofs.value_ranges.points_outside.Goals as goal
-
-pub returns : goal.returns
-unfolding is_above is_point_outside
-returns c = c.some_above.ensures

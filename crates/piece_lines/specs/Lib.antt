@@ -1,3 +1,0 @@
-pub mod Cursors
-pub mod AppliedLine
-pub mod Own

@@ -1,0 +1,37 @@
+// The refusals of document 01, 1 to 18, each with its number.
+#![tactic(auto)]
+
+ghost use Rattle.std.specs.Prelude.{◌≡◌};
+ghost use Rattle.refusals.specs.Refusals.{refusal_number};
+
+// Why a call is refused, in order of checking but for NotOpen, which comes right after Unfit.
+#[derive(Clone, Copy, Debug, PartialEq, Eq)]
+pub enum Refusal {
+    // 1: a block's size, a number of the record, or at the close what the blocks hold
+    Unfit = 1,
+    Illegible = 2,
+    Unknown = 3,
+    Misplaced = 4,
+    Malformed = 5,
+    Outside = 6,
+    NoDate = 7,
+    NotLater = 8,
+    TooSoon = 9,
+    Falling = 10,
+    TooMany = 11,
+    Miscounted = 12,
+    NotOpen = 13,
+    NoEnd = 14,
+    Partial = 15,
+    NoData = 16,
+    ZeroTotal = 17,
+    TooHigh = 18,
+}
+
+impl From<Refusal> for u64 {
+    ghost from_gives = { λ refusal n. n ≡ refusal_number refusal };
+
+    fn from(refusal: Refusal) -> u64 {
+        refusal as u64
+    }
+}
