@@ -37,6 +37,17 @@ not_early b st {u} q = go b (is_open st) refl q
     go true false e z = cc
     go false x e z = cc
 
+-- 1 and 13 come before 14
+pub refused_early : (b : Bool) (st : State) (last : ℕ) (y : Refusal) → Err y ≡ open_refusal b st → Err y ≡ ended_refusal b st last
+unfolding open_refusal ended_refusal
+refused_early b st last y q = go b (is_open st) q
+  where
+    go : (b x : Bool) → ◌≡◌ {A = Result (Unit {0}) Refusal} (Err y) (cond b (cond x (Ok tt) (Err NotOpen)) (Err Unfit))
+        → ◌≡◌ {A = Result (Unit {0}) Refusal} (Err y) (cond b (cond x (cond (eqb last 8) (Ok tt) (Err NoEnd)) (Err NotOpen)) (Err Unfit))
+    go true true e = cc
+    go true false e = e
+    go false x e = e
+
 -- neither 1 nor 13 nor 14
 pub none_refused : (b : Bool) (st : State) (last : ℕ) {u : Unit {0}} → Ok u ≡ ended_refusal b st last → (b ≡ true) × (is_open st ≡ true) × (last ≡ 8)
 unfolding ended_refusal
