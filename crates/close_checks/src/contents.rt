@@ -13,7 +13,8 @@ use crate::contents::reading_blocks::readings_fit;
 use crate::contents::winter_blocks::points_fit;
 use calendar::Years;
 
-// Whether all blocks fit; an AL is 0 until S is taken, and a year before 0 is 0. The columns are lent one by one: a struct of 600 readings would be copied.
+// Whether all blocks fit; an AL is 0 until S is taken, and a year before 0 is 0. The core runs over plain columns,
+// so each of them is a parameter.
 #[tactic(auto, unfolding(crate::specs::Contents::contents_in))]
 pub fn contents_fit(
     near: &[u32],

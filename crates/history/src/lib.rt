@@ -20,8 +20,8 @@ pub struct ValidYears {
     pub indexes: [bool; 10],
 }
 
-// By history year, for one winter day: E and daily total of the interval around it, and whether the year is an index donor. The arrays are lent one
-// by one to each half-hour, so that none is copied.
+// By history year, for one winter day: E and daily total of the interval around it, and whether the year is an index donor. It is lent whole to
+// each half-hour of the day.
 #[derive(Clone, Copy)]
 pub struct DayData {
     pub energies: [u64; 10],

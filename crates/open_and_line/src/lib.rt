@@ -1,5 +1,5 @@
 // The work of opening and of a line, on plain blocks and the parts of a record. The readings are given by their number alone: `record_calls` makes
-// them fresh, or stores the reading of a line.
+// them fresh, and has the outcome of a line store its reading.
 #![tactic(auto)]
 
 mod opening; // opening: every block fresh where each has its size, else as it was

@@ -6,6 +6,7 @@ use crate::line_ends::{ROOM, end};
 use text::put_text;
 
 // The bytes of a line whose end has not come: the first ones of `line`, as many as are held, and of more than 320 the first 320.
+// An array with its length, since memory is fixed and there is no heap.
 #[derive(Clone, Copy)]
 pub struct Pending {
     pub line: [u8; 321],

@@ -12,7 +12,7 @@ ghost use Rattle.sheet.specs.SheetTexts.{row_text, rows_text, sheet_text, Holds}
 use answers::Answer;
 use close::YearRow;
 
-// A sheet's text: the first `length` bytes.
+// A sheet's text: the first `length` bytes. An array with its length, since memory is fixed and there is no heap.
 #[derive(Clone, Copy)]
 pub struct Printed {
     pub bytes: [u8; 546],

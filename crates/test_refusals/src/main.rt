@@ -118,6 +118,7 @@ fn read_full<R: Read>(input: &mut R, buf: &mut [u8]) -> io::Result<usize>
     ensures { IfOk result (λ n. n ≤ length buf.new) }
 {
     let mut done = 0;
+    // a `while`, since how much a read brings shows only when it is done
     while done < buf.len() {
         let n = input.read(&mut buf[done..])?;
         if n == 0 {

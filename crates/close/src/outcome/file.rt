@@ -1,6 +1,7 @@
 // The report of a file: level, points and years.
 
-// A history year: its case as printed on the sheet, and its points present. All 0 where the file has no such year.
+// A history year: its case as printed on the sheet, and its points present. All 0 where the file has no such year. The case is a letter and not a
+// `Case`: the sheet's text is promised of every row.
 #[derive(Clone, Copy, PartialEq, Eq)]
 pub struct YearRow {
     pub year: u64,
