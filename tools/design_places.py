@@ -102,7 +102,7 @@ def rows():
 
 def buffers():
     """arrays in structs, and slices with a count of their places beside them"""
-    yield from found(r'^\s+(?:pub )?\w+: \[\w+; \d+\],')
+    yield from found(r'^\s+(?:pub )?\w+: \[\w+; [\d_]+\],')
     for name, line, fn, parameters, _ in functions():
         if re.search(r'\bn: usize', parameters) and '&' in parameters:
             yield '%s:%d %s' % (name, line, fn)

@@ -21,7 +21,7 @@ fn point_code(code: u64) -> u32
     }
 }
 
-// C: stores the points in the year's row, a part of the near or of the far block.
+// C: stores the points in the year's row, a part of the near or of the far block, which document 01 has as parameters of their own.
 pub fn put_points(
     near: &mut [u32],
     far: &mut [u32],
@@ -33,6 +33,7 @@ pub fn put_points(
     requires { (length codes.now ≡ 20) × RowPlace al year place × ((length near.old ≡ 15200) × (length far.old ≡ 15200)) }
     ensures { (near.new ≡ near_put al year place codes.now near.old) × (far.new ≡ far_put al year place codes.now far.old) }
 {
+    // `from_fn`, since `map` of an array clears each place that it takes
     let points = from_fn(|h| point_code(codes[h]));
     if al - 9 <= year {
         put_day(near, year - (al - 9), place, &points);

@@ -20,6 +20,7 @@ pub fn put_profiles(slots: &mut [u16], oldest: u64, year: u64, place: usize, cod
     requires { (length codes.now ≡ 20) × ((oldest ≤ year) × (year < oldest + 10)) × ((place < 152) × (length slots.old ≡ 30400)) }
     ensures { slots.new ≡ slots_put oldest year place codes.now slots.old }
 {
+    // `from_fn`, since `map` of an array clears each place that it takes
     let values = from_fn(|h| profile_code(codes[h]));
     put_day(slots, year - oldest, place, &values);
 }

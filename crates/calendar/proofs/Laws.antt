@@ -16,9 +16,9 @@ pub use Days.{earlier_place}
 -- the same of winter
 pub use Winter.{winter_words, WinterDayHasPlace, winter_day_place, WinterPlaceHasDay, winter_place_day}
 pub use Winter.{has_winter_date_rule, has_winter_date_leap, has_winter_date_other, has_winter_date_cases, no_winter_date_past, winter_dates_in_year}
-pub use Winter.{winter_parts, winter_rises, winter_same, earlier_winter_place}
+pub use Winter.{winter_parts, winter_rises, earlier_winter_place}
 -- history and axis years
-pub use Positions.{among_words, among_by_count, axis_among, length_5_10, Known, known_parts, has_history, no_history, known_history}
+pub use Positions.{among_words, axis_among, length_5_10, Known, known_parts, has_history, no_history, known_history}
 pub use Positions.{HistoryBounds, history_bounds, history_short, history_year_lem, known_axis, no_axis, AxisBounds, axis_bounds, AxisRange, axis_range}
 -- positions on the axis
 pub use Positions.{PositionParts, position_parts, position_back, year_among, earlier_position}

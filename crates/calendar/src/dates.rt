@@ -2,6 +2,8 @@
 ghost use Rattle.std.specs.Prelude.{◌≡◌};
 ghost use Rattle.calendar.specs.Dates.{leap, longest, days_in, is_date, is_day, is_winter};
 
+use crate::Date;
+
 // The days of each month in a leap year, at the month's number; there is no month 0.
 const LENGTHS: [u64; 13] = [0, 31, 29, 31, 30, 31, 30, 31, 31, 30, 31, 30, 31];
 
@@ -32,10 +34,10 @@ pub(crate) fn days_in(year: u64, month: u64) -> u64
 }
 
 #[tactic(auto, unfolding(crate::specs::Dates::is_date))]
-pub fn is_date(year: u64, month: u64, day: u64) -> bool
-    ensures { result ≡ is_date year month day }
+pub fn is_date(date: Date) -> bool
+    ensures { result ≡ is_date date.year date.month date.day }
 {
-    (1..=days_in(year, month)).contains(&day)
+    (1..=days_in(date.year, date.month)).contains(&date.day)
 }
 
 // Whether some year has the day: 29 February is one.

@@ -30,7 +30,7 @@ pub struct Day {
     pub day: u64,
 }
 
-// A day of one year.
+// A day of one year, as its numbers: `is_date` says whether the year has it.
 #[derive(Clone, Copy)]
 pub struct Date {
     pub year: u64,

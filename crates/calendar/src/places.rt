@@ -6,6 +6,8 @@ use crate::Day;
 use crate::dates::{is_day, is_winter};
 use crate::rows::{month_at, start};
 
+// By month and day, the numbers that a date has: a Day would first be made of them at each call, and is no plainer.
+
 pub fn date_place(month: u64, day: u64) -> Option<usize>
     ensures { result ≡ date_place_of month day }
 {

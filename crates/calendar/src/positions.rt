@@ -1,4 +1,5 @@
-// Positions on the axis, 366 for each of its years: of a date, and back.
+// Positions on the axis, 366 for each of its years: of a date, and back. By AL and filière, as the spans themselves, and not by a span: a position in a span of
+// any other years could be too large.
 ghost use Rattle.std.specs.Prelude.{◌≡◌};
 ghost use Rattle.calendar.specs.Spans.{history_years, axis_years};
 ghost use Rattle.calendar.specs.Answers.{position_in, date_at};
@@ -10,15 +11,15 @@ use crate::spans::axis;
 use crate::{Date, Day};
 
 // The place of a date in the daily block: 366 places for each year of the axis.
-pub fn position(al: u64, filiere: u64, year: u64, month: u64, day: u64) -> Option<usize>
-    ensures { result ≡ position_in (axis_years (history_years al filiere)) year month day }
+pub fn position(al: u64, filiere: u64, date: Date) -> Option<usize>
+    ensures { result ≡ position_in (axis_years (history_years al filiere)) date.year date.month date.day }
 {
     let years = axis(al, filiere);
-    if !years.contains(year) || !is_date(year, month, day) {
+    if !years.contains(date.year) || !is_date(date) {
         return None;
     }
-    let row = (year - years.first) as usize;
-    Some(366 * row + date_place(month, day)?)
+    let row = years.row(date.year);
+    Some(366 * row + date_place(date.month, date.day)?)
 }
 
 // The date at a place of the daily block.

@@ -1,9 +1,10 @@
 // The history and axis years of an AL and a filière.
-ghost use Rattle.std.specs.Prelude.{◌≡◌};
+ghost use Rattle.std.specs.Prelude.{◌≡◌, ◌≤◌, ◌-◌};
 ghost use Rattle.calendar.specs.Spans.{among, history_length, is_known, history_years, axis_years};
 
 use crate::Years;
 
+// A span like any other, which contains no year: whoever asks it needs no Option.
 const NO_YEARS: Years = Years { first: 0, count: 0 };
 
 impl Years {
@@ -14,9 +15,17 @@ impl Years {
     {
         self.first <= year && year - self.first < self.count
     }
+
+    // The row of a year in a block with a row for each year from the first on.
+    pub fn row(self, year: u64) -> usize
+        requires { self.first ≤ year }
+        ensures { result ≡ year - self.first }
+    {
+        (year - self.first) as usize
+    }
 }
 
-// How many years the history has: ten for run of river and pondage hydro, else five.
+// How many years the history has: a table of the rules, ten for run of river and pondage hydro, else five.
 #[tactic(auto, unfolding(crate::specs::Spans::history_length))]
 pub fn history_length(filiere: u64) -> u64
     ensures { result ≡ history_length filiere }

@@ -1,6 +1,6 @@
 -- The results of the steps of a close, put together to its result.
 use mathlib.Core.Path.{◌≡◌, ap, ap₂, sym, ◌∙◌}
-use mathlib.Core.Bool.{Bool, true, false, not, cond}
+use mathlib.Core.Bool.{Bool, true, false, not}
 use mathlib.Core.List.{List}
 use Prim.Native.Nat.{ℕ, ◌≤◌, ◌<◌}
 use lib.Dec.{T}
@@ -14,6 +14,7 @@ use Rattle.meaning.specs.Closing.{too_high, close_holds}
 use Rattle.meaning.specs.Blocks.{Blocks}
 use Rattle.meaning.specs.Record.{Tallies, filing_held}
 use Rattle.demands.proofs.Bound.Counted.{some_point}
+use Rattle.validity.specs.Columns.{Rising, NonDecreasing}
 use Rattle.validity.specs.Days.{energies_of, totals_of}
 use Rattle.history.specs.declared.cases.Case.{Case}
 use Rattle.history.specs.declared.ValidYears.{ValidYears}
@@ -31,9 +32,13 @@ use Rattle.history.specs.ValidYears.{valid_curves, valid_indexes, valid_years}
 use Rattle.close_checks.specs.DataRefusals.{data_refusal}
 use Rattle.close.specs.ReportRows.{reported_by}
 use Rattle.close.specs.Closes.{FileFits, file_out, file_out_of}
-use Rattle.close.proofs.FileFacts.{known, short, oldest, lists_fit, means}
+use Rattle.close.proofs.FileFacts.{known, short, oldest, rise, climb, lists_fit, means}
 use Rattle.close.proofs.DataRefusals.{stopped, exceeded, reports}
 use Rattle.close.proofs.ReportRows.{reported_is}
+
+-- the counted readings, which are those of three columns
+abbrev SameReadings : List ℕ → List ℕ → List ℕ → ℕ → List ℕ → List ℕ → List ℕ → ℕ → Type 0
+SameReadings ps' xs' ks' n' ps xs ks n = (ps' ≡ ps) × (xs' ≡ xs) × (ks' ≡ ks) × (n' ≡ n)
 
 -- history, valid years, cases, default power, and E and daily total by position, as computed
 pub record Found (t : Site) (n : ℕ) (k : Tallies) (w : Blocks) (ps xs ks : List ℕ) (h : Years) (v : ValidYears) (x : List Case) (d : List Bool) (es ts : List ℕ) : Type 0 where
@@ -51,20 +56,33 @@ module _ {t : Site} {n : ℕ} {k : Tallies} {w : Blocks} {ps xs ks : List ℕ} (
   pub few_years : {h : Years} → h ≡ history_years t.al t.filiere → (h.first ≤ 2021) × (h.count ≤ 10)
   few_years e = rw e (oldest fit, short fit)
 
-  pub found_by : {h : Years} {v : ValidYears} {x : List Case} {d : List Bool} {es ts : List ℕ} → h ≡ history_years t.al t.filiere
-      → v ≡ valid_years t.al h k.breaks w.near w.far ps ks n
-      → x ≡ cases_of t.meter h.count v.curves v.indexes
-      → d ≡ default_years h.count x
-      → es ≡ energies_of ps xs n
-      → ts ≡ totals_of ps w.daily n
-      → Found t n k w ps xs ks h v x d es ts
-  found_by a b c d e f = record { history = a; valid = b; cases = c; defaults = d; energies = e; totals = f }
+  module _ {ps' xs' ks' : List ℕ} {n' : ℕ} (same : SameReadings ps' xs' ks' n' ps xs ks n) where
+    pub found_by : {h : Years} {v : ValidYears} {x : List Case} {d : List Bool} {es ts : List ℕ} → h ≡ history_years t.al t.filiere
+        → v ≡ valid_years t.al h k.breaks w.near w.far ps' ks' n'
+        → x ≡ cases_of t.meter h.count v.curves v.indexes
+        → d ≡ default_years h.count x
+        → es ≡ energies_of ps' xs' n'
+        → ts ≡ totals_of ps' w.daily n'
+        → Found t n k w ps xs ks h v x d es ts
+    found_by a b c d e f =
+        record {
+          history = a;
+          valid = rw (same.0, same.2, same.3) at b;
+          cases = c;
+          defaults = d;
+          energies = rw (same.0, same.1, same.3) at e;
+          totals = rw (same.0, same.3) at f;
+        }
+
+    pub rising_by : Rising ps' n' × NonDecreasing xs' n'
+    rising_by = rw (same.0, same.1, same.3) (rise fit, climb fit)
 
   module _ {h : Years} {v : ValidYears} {x : List Case} {d : List Bool} {es ts : List ℕ} (found : Found t n k w ps xs ks h v x d es ts) where
     pub lists : ListsFit t.al w.near w.far w.slots es ts k.rates
     lists = rw (found.energies, found.totals) (lists_fit fit)
 
-    module _ (c : List ℕ) {number : Result (Unit {0}) Refusal} (told : number ≡ data_refusal h k.profile_dates k.daily_dates v.indexes d ps n ts) where
+    module _ (c : List ℕ) {ps' xs' ks' : List ℕ} {n' : ℕ} (same : SameReadings ps' xs' ks' n' ps xs ks n) {number : Result (Unit {0}) Refusal}
+        (told : number ≡ data_refusal h k.profile_dates k.daily_dates v.indexes d ps' n' ts) where
       abbrev y : Years
       y = history_years t.al t.filiere
 
@@ -85,7 +103,7 @@ module _ {t : Site} {n : ℕ} {k : Tallies} {w : Blocks} {ps xs ks : List ℕ} (
 
       stop_is : number ≡ data_refusal y k.profile_dates k.daily_dates is (default_years y.count cases) ps n totals
       unfolding valid_years
-      stop_is = rw (found.defaults, found.cases, found.valid, found.history, found.totals) at told
+      stop_is = rw (same.0, same.3, found.defaults, found.cases, found.valid, found.history, found.totals) at told
 
       -- 15, 16, 17
       pub stops : {y : Refusal} → number ≡ Err y → file_out (Err y) c ≡ file_out_of F c
@@ -103,8 +121,8 @@ module _ {t : Site} {n : ℕ} {k : Tallies} {w : Blocks} {ps xs ks : List ℕ} (
             sym (ap (λ (x : CurveTotals). x.exceeds) filled_is.is ∙ exceeds_is t n k true w energies totals cs is cases (means fit))
 
         -- 18
-        pub exceeds : {left : List ℕ} → left ≡ cond f.exceeds c after → f.exceeds ≡ true → file_out (Err TooHigh) left ≡ file_out_of F c
-        exceeds l q = ap (file_out (Err TooHigh)) (l ∙ ap (λ (b : Bool). cond b c after) q) ∙ exceeded fit c (sym passed ∙ stop_is) (too_high_lem ∙ q)
+        pub exceeds : f.exceeds ≡ true → file_out (Err TooHigh) c ≡ file_out_of F c
+        exceeds q = exceeded fit c (sym passed ∙ stop_is) (too_high_lem ∙ q)
 
         pub whole : length after ≡ 4400
         unfolding curve_in
@@ -122,11 +140,11 @@ module _ {t : Site} {n : ℕ} {k : Tallies} {w : Blocks} {ps xs ks : List ℕ} (
               known_filing = unfold filing_held in (known fit)
 
           -- no refusal
-          pub reported : {r : FileReport} {left : List ℕ} → r ≡ reported_by t.al t.filiere h x f → left ≡ cond f.exceeds c after → file_out (Ok r) left ≡ file_out_of F c
+          pub reported : {r : FileReport} {left : List ℕ} → r ≡ reported_by t.al t.filiere h x f → left ≡ after → file_out (Ok r) left ≡ file_out_of F c
           reported e l =
-              ap₂ (λ (y : FileReport) (ys : List ℕ). file_out (Ok y) ys) (e ∙ same ∙ reported_is fit fine) (l ∙ ap (λ (b : Bool). cond b c after) low ∙ filled_is.curve ∙ curve_is t n k true w energies totals cs is cases (means fit) fine)
+              ap₂ (λ (y : FileReport) (ys : List ℕ). file_out (Ok y) ys) (e ∙ alike ∙ reported_is fit fine) (l ∙ filled_is.curve ∙ curve_is t n k true w energies totals cs is cases (means fit) fine)
               ∙ reports fit c (sym passed ∙ stop_is) (too_high_lem ∙ low)
             where
-              same : reported_by t.al t.filiere h x f
+              alike : reported_by t.al t.filiere h x f
                   ≡ reported_by t.al t.filiere y cases (curve_totals_of (site_factors_of t.al t.filiere t.ps) (file_data w.near w.far w.slots energies totals cs is (cas_from y.first t.filiere)) cases k.rates)
-              same = unfold valid_years in (rw (filled_is.is, found.cases, found.valid, found.history))
+              alike = unfold valid_years in (rw (filled_is.is, found.cases, found.valid, found.history))

@@ -28,7 +28,7 @@ use Rattle.validity.proofs.Filings.{valid_is}
 use Rattle.validity.specs.Columns.{Rising, NonDecreasing}
 use Rattle.validity.specs.Days.{energies_of, totals_of}
 use Rattle.validity.specs.Index.{valid_index}
-use Rattle.validity.proofs.Filed.{columns_rise, columns_count, columns_kinds, columns_daily, by_year_lem}
+use Rattle.validity.proofs.Filed.{columns_rise, columns_count, columns_daily, by_year_lem}
 use Rattle.validity.proofs.Valid.{index_valid_held}
 use Rattle.validity.proofs.Totals.{profiled_year}
 use Rattle.validity.proofs.Bounds.{energies_most, totals_most}
@@ -144,9 +144,6 @@ module _ {t : Site} {n : ℕ} {k : Tallies} {w : Blocks} {ps xs ks : List ℕ} (
 
   pub climb : NonDecreasing xs n
   climb = columns_count t n w fit.columns fit.few fit.readings
-
-  pub kinds_held : n ≤ length ks
-  kinds_held = columns_kinds t n w fit.columns fit.few
 
   pub daily_size_lem : length w.daily ≡ 4392
   daily_size_lem = columns_daily w fit.sizes

@@ -6,7 +6,7 @@ use Prim.Native.Nat.{ℕ, ◌≤◌}
 use native.Mathlib.Omega.{arith}
 use lib.Dec.{T, eqb, leb, leb→le, eqb→eq}
 use lib.ListN.{length}
-use Rattle.lists.proofs.Tests.{and_parts, passed, and_both}
+use Rattle.lists.proofs.Tests.{and_parts, passed}
 use Rattle.calendar.specs.declared.Years.{Years}
 use Rattle.calendar.specs.Spans.{history_years, axis_years}
 use Rattle.meaning.specs.Filing.{Reading}
@@ -14,10 +14,9 @@ use Rattle.meaning.specs.Line.{most_index}
 use Rattle.meaning.specs.Refusals.{is_too_soon, most_readings}
 use Rattle.meaning.specs.Blocks.{Blocks, sizes_fit, readings_of, readings_size}
 use Rattle.meaning.specs.Record.{Rec, is_taken, is_within, history_of_site, history_of_rec, axis_of_rec, site_fits, rec_fits, contents_fit}
-use Rattle.readings.specs.Columns.{readings_in, lent_blocks, lent_blocks_in, Columned}
+use Rattle.readings.specs.Columns.{readings_in, lent_blocks, lent_blocks_in}
 use Rattle.close_checks.specs.Contents.{contents_in}
 use Rattle.close_checks.proofs.ContentLaws.{contents_fit_lem}
-use Rattle.answers.specs.Refusals.{lengths_fit}
 use Rattle.progress.proofs.SiteTaken.{al_given, filiere_given}
 use Rattle.meaning.proofs.Sizes.{sizes_of}
 use Rattle.answers.proofs.Laws.{by_lengths}
@@ -72,25 +71,6 @@ all_fit_lem s w r ps xs ks l same = rw (← l, by_lengths w) (go (sizes_fit w) r
     go false e = refl
 
 -- from the columns
-pub fits_contents : (s : Rec) (w : Blocks) {ps xs ks : List ℕ} → Columned w s.readings ps xs ks → (f : Bool) (h v : Years) → h ≡ history_of_rec s → v ≡ axis_of_rec s
+pub fits_contents : (s : Rec) (w : Blocks) (ps xs ks : List ℕ) → readings_of w s.readings ≡ readings_in ps xs ks s.readings → (f : Bool) (h v : Years) → h ≡ history_of_rec s → v ≡ axis_of_rec s
     → f ≡ contents_in h v s.site.al w.near w.far w.slots w.daily ps xs ks s.readings → f ≡ contents_fit s w
-fits_contents s w {ps} {xs} {ks} cols f h v eh ev ef = rw (contents_fit_lem s w ps xs ks cols.read, ← eh, ← ev) ef
-
--- from the lengths of the lists, and bounds for a record within its ranges
-module _ (s : Rec) (r c : ℕ) (w : Blocks) (a b x : Bool)
-    (ea : a ≡ lengths_fit (length w.near) (length w.far) (length w.slots) (length w.daily) r c) (eb : b ≡ rec_fits s) (ex : x ≡ (a && b)) where
-  pub fits_not : x ≡ false → false ≡ all_fit s r c w
-  unfolding all_fit
-  fits_not h = rw (← ea, ← eb) (go a b (sym ex ∙ h))
-    where
-      go : (a b : Bool) → (a && b) ≡ false → false ≡ (a && (b && contents_fit s w))
-      go true true e = sym e ∙ absurd (subst T e tt)
-      go true false e = refl
-      go false b e = refl
-
-  pub fits_record : x ≡ true → rec_fits s ≡ true
-  fits_record h = sym eb ∙ (and_both a b (sym ex ∙ h)).1
-
-  pub fits_all : x ≡ true → (f : Bool) → f ≡ contents_fit s w → f ≡ all_fit s r c w
-  unfolding all_fit
-  fits_all h f ef = let p = and_both a b (sym ex ∙ h) in rw (← ea, ← eb, p.0, p.1) ef
+fits_contents s w ps xs ks read f h v eh ev ef = rw (contents_fit_lem s w ps xs ks read, ← eh, ← ev) ef

@@ -1,3 +1,4 @@
+pub mod Lent
 pub mod FileOutcomes
 pub mod Ends
 pub mod FirstRefusals

@@ -1,10 +1,9 @@
-// The lent blocks that a close reads and leaves.
+// The lent list of readings, as a close reads it.
+use readings::Columns;
 
-// Near and far points, slot profiles and daily profiles.
+// The readings as columns, and the length of the list from which they were copied.
 #[derive(Clone, Copy)]
-pub struct ReadBlocks<'a> {
-    pub near: &'a [u32],
-    pub far: &'a [u32],
-    pub slots: &'a [u16],
-    pub daily: &'a [u32],
+pub struct LentReadings {
+    pub columns: Columns,
+    pub listed: usize,
 }

@@ -6,5 +6,5 @@ mod call; // the result of the call
 
 pub use call::CloseOutcome;
 pub(crate) use call::{close_outcome, refuse, state_after};
-pub use file::YearRow;
-pub(crate) use file::{FileReport, NO_YEARS};
+pub(crate) use file::{FileReport, NO_YEAR};
+pub use file::{NO_YEARS, YearRow};

@@ -5,16 +5,14 @@ use mathlib.Core.List.{List, [], ◌∷◌}
 use Prim.Native.Nat.{ℕ, ◌+◌, ◌-◌, ◌≤◌, ◌<◌}
 use native.Mathlib.Omega.{arith}
 use lib.Dec.{leb, ltb, leb→le, le→leb, ltb→lt, lt→ltb, leb-zero}
-use lib.ListN.{length, get_or}
+use lib.ListN.{get_or}
 use borrow.Author.Tests.{le-leb, lt-leb}
 use Rattle.lists.specs.Lists.{all, tab, neighbours}
 use Rattle.lists.proofs.AllAt.{stops}
 use Rattle.lists.proofs.FilledTables.{tab_on, tab_end}
 use Rattle.lists.proofs.Tests.{same, and_false, and_true}
-use Rattle.lists.proofs.Ranges.{get_d_any}
 use Rattle.calendar.specs.declared.Years.{Years}
-use Rattle.meaning.specs.Filing.{Reading, reading}
-use Rattle.meaning.specs.Line.{kind_of_letter}
+use Rattle.meaning.specs.Filing.{Reading}
 use Rattle.meaning.specs.Record.{reading_fits, readings_fit}
 use Rattle.readings.specs.Columns.{reading_in, readings_in}
 
@@ -69,22 +67,19 @@ module _ (axis : Years) (ps xs ks : List ℕ) (n : ℕ) where
     unfolding left chain
     left_end h = rw (tab_end (reading_in ps xs ks) k n h)
 
-    left_on : k < n → k < length ks → left axis ps xs ks n p x k
-        ≡ ((reading_fits axis (reading (get_or ps k 0) (get_or xs k 0) (kind_of_letter (get_or ks k 0))) && (leb p (get_or ps k 0) && leb x (get_or xs k 0)))
-        && left axis ps xs ks n (get_or ps k 0 + 1) (get_or xs k 0) (k + 1))
+    left_on : k < n → left axis ps xs ks n p x k
+        ≡ ((reading_fits axis (reading_in ps xs ks k) && (leb p (get_or ps k 0) && leb x (get_or xs k 0))) && left axis ps xs ks n (get_or ps k 0 + 1) (get_or xs k 0) (k + 1))
     unfolding left chain
-    left_on h l = rw (tab_on (reading_in ps xs ks) k n h, get_d_any ks k 69 0 l) refl
+    left_on h = rw (tab_on (reading_in ps xs ks) k n h) refl
 
-    pub left_unfit : k < n → k < length ks → reading_fits axis (reading (get_or ps k 0) (get_or xs k 0) (kind_of_letter (get_or ks k 0))) ≡ false
-        → false ≡ left axis ps xs ks n p x k
-    left_unfit h l e = stops _ (left_on h l) (ap (λ (b : Bool). b && (leb p (get_or ps k 0) && leb x (get_or xs k 0))) e)
+    pub left_unfit : k < n → reading_fits axis (reading_in ps xs ks k) ≡ false → false ≡ left axis ps xs ks n p x k
+    left_unfit h e = stops _ (left_on h) (ap (λ (b : Bool). b && (leb p (get_or ps k 0) && leb x (get_or xs k 0))) e)
 
-    pub left_early : k < n → k < length ks → get_or ps k 0 < p → false ≡ left axis ps xs ks n p x k
-    left_early h l e = sym (left_on h l ∙ rw (lt-leb p (get_or ps k 0) e, and_false) refl)
+    pub left_early : k < n → get_or ps k 0 < p → false ≡ left axis ps xs ks n p x k
+    left_early h e = sym (left_on h ∙ rw (lt-leb p (get_or ps k 0) e, and_false) refl)
 
-    pub left_falls : k < n → k < length ks → get_or xs k 0 < x → false ≡ left axis ps xs ks n p x k
-    left_falls h l e = sym (left_on h l ∙ rw (lt-leb x (get_or xs k 0) e, and_false (leb p (get_or ps k 0)), and_false) refl)
+    pub left_falls : k < n → get_or xs k 0 < x → false ≡ left axis ps xs ks n p x k
+    left_falls h e = sym (left_on h ∙ rw (lt-leb x (get_or xs k 0) e, and_false (leb p (get_or ps k 0)), and_false) refl)
 
-    pub left_next : k < n → k < length ks → reading_fits axis (reading (get_or ps k 0) (get_or xs k 0) (kind_of_letter (get_or ks k 0))) ≡ true
-        → p ≤ get_or ps k 0 → x ≤ get_or xs k 0 → left axis ps xs ks n p x k ≡ left axis ps xs ks n (get_or ps k 0 + 1) (get_or xs k 0) (k + 1)
-    left_next h l e f g = left_on h l ∙ rw (e, le-leb p (get_or ps k 0) f, le-leb x (get_or xs k 0) g) refl
+    pub left_next : k < n → reading_fits axis (reading_in ps xs ks k) ≡ true → p ≤ get_or ps k 0 → x ≤ get_or xs k 0 → left axis ps xs ks n p x k ≡ left axis ps xs ks n (get_or ps k 0 + 1) (get_or xs k 0) (k + 1)
+    left_next h e f g = left_on h ∙ rw (e, le-leb p (get_or ps k 0) f, le-leb x (get_or xs k 0) g) refl

@@ -1,6 +1,6 @@
 -- The blocks of points and profiles day by day: the 20 half-hours of a day have one date.
 use mathlib.Core.Path.{◌≡◌, refl, ap, sym, subst, ◌∙◌}
-use mathlib.Core.Bool.{Bool, true, false, ◌&&◌, ◌||◌}
+use mathlib.Core.Bool.{Bool, true, false, ◌&&◌, ◌||◌, cond}
 use mathlib.Core.List.{List, [], ◌∷◌, ◌++◌}
 use Prim.Native.Nat.{ℕ, zero, suc, ◌+◌, ◌*◌, ◌/◌, ◌%◌, ◌≤◌, ◌<◌, min}
 use native.Mathlib.Omega.{arith}
@@ -118,6 +118,11 @@ points_all h first xs = refl
 pub slots_all : (h : Years) (xs : List ℕ) → slots_fit h xs ≡ all_at (λ j v. slot_fits (dated_at h h.first j) v) 0 xs
 unfolding slots_fit slot_fits dated_at
 slots_all h xs = refl
+
+-- on a day with a date what C can give, on another only missing points
+pub points_on_day : (dated : Bool) (ys : List ℕ) → cond dated (all (point_fits true) ys) (all (point_fits false) ys) ≡ all (point_fits dated) ys
+points_on_day true ys = refl
+points_on_day false ys = refl
 
 -- ---- profile values of two bytes
 value_fits : (v : ℕ) → v ≤ 65535 → T (slot_fits true v)

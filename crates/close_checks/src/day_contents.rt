@@ -1,25 +1,27 @@
 // Refusal 1 at the close: the 20 points, or profile values, of one day.
-ghost use Rattle.std.specs.Prelude.{◌≡◌, false};
+ghost use Rattle.std.specs.Prelude.{◌≡◌, true, false};
 ghost use Rattle.lists.specs.Lists.{all};
 ghost use Rattle.meaning.specs.Record.{point_fits};
 ghost use Rattle.close_checks.specs.Slots.{slot_fits};
 
 use blocks::NO_POINT;
 
-const MOST_POWER: u32 = 100000000;
+const MOST_POWER: u32 = 100_000_000;
 
-// Whether the points fit: at a date of the history what C can give, elsewhere missing.
-pub(crate) fn points_on_day(points: &[u32], dated: bool) -> bool
-    ensures { result ≡ all (point_fits dated) points.now }
+// Whether the points of a day with a date fit: what C can give, or missing.
+pub(crate) fn all_given(points: &[u32]) -> bool
+    ensures { result ≡ all (point_fits true) points.now }
 {
-    points.iter().all(|point| point_fits(dated, *point))
+    points
+        .iter()
+        .all(|point| *point == NO_POINT || *point <= MOST_POWER)
 }
 
-#[tactic(auto, unfolding(meaning::specs::Record::point_fits))]
-fn point_fits(dated: bool, v: u32) -> bool
-    ensures { result ≡ point_fits dated v }
+// Whether the points of a day without a date fit: all are missing.
+pub(crate) fn all_missing(points: &[u32]) -> bool
+    ensures { result ≡ all (point_fits false) points.now }
 {
-    v == NO_POINT || (dated && v <= MOST_POWER)
+    points.iter().all(|point| *point == NO_POINT)
 }
 
 // Whether the profile values of a day without a date fit: all are 0.

@@ -6,4 +6,4 @@ mod contents; // 1 on points, profile values, daily sums and counted readings
 mod missing_data; // 15, 16 and 17
 
 pub use contents::contents_fit;
-pub use missing_data::data_refusal;
+pub use missing_data::{ProfiledYears, data_refusal};

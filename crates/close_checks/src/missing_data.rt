@@ -2,8 +2,9 @@
 mod daily; // 16 on daily sums, over the intervals from which a year is profiled
 mod dates; // 15, over the dates of each year
 mod first; // all of them, in order of checking
-mod profiled; // the intervals from which a valid-index year is profiled
+mod profiled; // the valid-index years, and the intervals from which they are profiled
 mod profiles; // 16 on profiles
 mod totals; // 17, over the same intervals
 
 pub use first::data_refusal;
+pub use profiled::ProfiledYears;

@@ -27,12 +27,13 @@ use Rattle.meaning.specs.Blocks.{Blocks, slots_start}
 use Rattle.meaning.specs.Record.{Tallies, history_of_site, profile_held, by_year, rate_of_code, filing_held}
 use Rattle.validity.proofs.Filings.{point_is}
 use Rattle.points.specs.declared.own.SiteFactors.{SiteFactors}
+use Rattle.history.specs.declared.YearOnDay.{YearOnDay}
 use Rattle.history.specs.declared.cases.Case.{Case}
 use Rattle.history.specs.declared.cases.Case.TheVariants.{M}
 use Rattle.history.specs.Cases.{case_view}
 use Rattle.points.specs.OwnPoints.{code_in, read_in, profile_in, profiled_on}
 use Rattle.points.specs.DonorOrigins.{donor_by, curve_origin, index_origin, donors_among}
-use Rattle.history.specs.Years.{position_in, on_day, is_donor_on, cas_from, cas_sum}
+use Rattle.history.specs.Years.{no_year, year_on, years_on, position_in, cas_from, cas_sum}
 use Rattle.points.specs.Sources.{Day, curve_donors_in, index_donors_in, default_in, source_in}
 use Rattle.curve.specs.PlaceSums.{place}
 use Rattle.curve.specs.YearPlaces.{FileData, file_data, day_in, places_on, places_in}
@@ -103,14 +104,17 @@ module _ (t : Site) (n : ℕ) (r : Tallies) (e : Bool) (b : Blocks) (energies to
   unfolding filing_held cas_from
   ca_is k h = get_d_tab0 10 (λ j. ca_of (first + j) t.filiere) k 0 (omega (arith, h, few))
 
-  on_day_lem : (xs : List ℕ) (k w : ℕ) → k < years → get_or (on_day xs w) k 0 ≡ get_or xs (position_in k w) 0
-  unfolding on_day
-  on_day_lem xs k w h = get_d_tab0 10 (λ j. get_or xs (position_in j w) 0) k 0 (omega (arith, h, few))
+  abbrev on : ℕ → List YearOnDay
+  on w = years_on energies totals indexes first w
 
-  profiled_is : (k w h : ℕ) → k < years → w < 152 → h < 20 → profiled_on b.slots (on_day energies w) (on_day totals w) k w h ≡ profiled_at F (first + k) w h
-  unfolding profiled_on profiled_at history_of filing_held
+  on_is : (k w : ℕ) → k < years → get_or (on w) k no_year ≡ year_on energies totals indexes first w k
+  unfolding years_on
+  on_is k w h = get_d_tab0 10 (year_on energies totals indexes first w) k no_year (omega (arith, h, few))
+
+  profiled_is : (k w h : ℕ) → k < years → w < 152 → h < 20 → profiled_on b.slots (on w) k w h ≡ profiled_at F (first + k) w h
+  unfolding profiled_on year_on profiled_at history_of filing_held
   profiled_is k w h i j l =
-      rw (on_day_lem energies k w i, on_day_lem totals k w i, profile_is k w h i j l) (sym (m.around k w (F.profile (first + k) w h) i j))
+      rw (on_is k w i, profile_is k w h i j l) (sym (m.around k w (F.profile (first + k) w h) i j))
 
   -- ---- donors
   abbrev D : ℕ → Day
@@ -131,14 +135,14 @@ module _ (t : Site) (n : ℕ) (r : Tallies) (e : Bool) (b : Blocks) (energies to
       go true = donor_is k i (read_at F (first + k) w h)
       go false = no_donor (get_or (cas_from first t.filiere) k 0)
 
-  giver_is : (w k : ℕ) → k < years → get_or (is_donor_on indexes first w) k false ≡ (index_valid F (first + k) && has_winter_date (first + k) w)
-  unfolding is_donor_on history_of filing_held
+  giver_is : (w k : ℕ) → k < years → (get_or (on w) k no_year).is_donor ≡ (index_valid F (first + k) && has_winter_date (first + k) w)
+  unfolding year_on history_of filing_held
   giver_is w k h =
-      get_d_tab0 10 (λ j. get_or indexes j false && has_winter_date (first + j) w) k false (omega (arith, h, few))
+      ap (λ (y : YearOnDay). y.is_donor) (on_is k w h)
       ∙ ap (λ (v : Bool). v && has_winter_date (first + k) w) (m.indexes_valid k h)
 
   index_given : (w h k : ℕ) → k < years → w < 152 → h < 20
-      → donor_by (get_or (cas_from first t.filiere) k 0) (index_origin b.slots (on_day energies w) (on_day totals w) (is_donor_on indexes first w) w h k) ≡ index_donor F w h (first + k)
+      → donor_by (get_or (cas_from first t.filiere) k 0) (index_origin b.slots (on w) w h k) ≡ index_donor F w h (first + k)
   unfolding index_origin index_donor
   index_given w h k i j l =
       rw (giver_is w k i, profiled_is k w h i j l) (go (index_valid F (first + k) && has_winter_date (first + k) w))
@@ -161,7 +165,7 @@ module _ (t : Site) (n : ℕ) (r : Tallies) (e : Bool) (b : Blocks) (energies to
   index_donors_lem : (w h : ℕ) → w < 152 → h < 20 → index_donors_in B (D w) w h ≡ index_donors F w h
   unfolding index_donors_in index_donors history_list years_in history_of filing_held site_factors_of day_in
   index_donors_lem w h j l =
-      among_is (index_origin b.slots (on_day energies w) (on_day totals w) (is_donor_on indexes first w) w h) (index_donor F w h) (λ k i. index_given w h k i j l)
+      among_is (index_origin b.slots (on w) w h) (index_donor F w h) (λ k i. index_given w h k i j l)
 
   -- ---- default power
   cas_sum_lem : cas_sum years (cas_from first t.filiere) ≡ history_cas F

@@ -20,10 +20,10 @@ use Rattle.meaning.specs.Points.{CurvePlace, Source}
 use Rattle.points.specs.declared.own.SiteFactors.{SiteFactors}
 use Rattle.points.specs.PlacePoints.{PlacePoint}
 use Rattle.points.specs.OwnFits.{PlacePointIs}
-use Rattle.history.specs.declared.DayData.{DayData as YearsOnDay}
-use Rattle.history.specs.Years.{years_on, on_day, position_in}
-use Rattle.points.specs.Sources.{Day, day_with, source_in}
-use Rattle.points.specs.Fits.{RateFits, DayFits}
+use Rattle.history.specs.declared.YearOnDay.{YearOnDay}
+use Rattle.history.specs.Years.{no_year, year_on, years_on, position_in}
+use Rattle.points.specs.Sources.{Day, day, source_in}
+use Rattle.points.specs.Fits.{RateFits, YearFits, DayFits}
 use Rattle.curve.specs.declared.place_sums.PlaceSum.{PlaceSum}
 use Rattle.curve.specs.PlaceSums.{place_sum, place_sum_of, entries_of, plus, entry_of_point, sum_of_point, place}
 use Rattle.curve.specs.YearPlaces.{FileData, day_in, places_on, places_in}
@@ -114,17 +114,17 @@ pub entered_more : (n m at : ℕ) (qs : List CurvePlace) (before now : List ℕ)
 entered_more n m at qs before now t h e =
     record { tally = e.tally; fits = record { sum = e.fits.sum; counted = omega (arith, e.fits.counted) }; curve = e.curve }
 
--- ---- a bound on a list bounds what a day needs of it
-day_most : (m : ℕ) (xs : List ℕ) (w : ℕ) → AtMost m xs → AtMost m (on_day xs w)
-unfolding on_day
-day_most m xs w h i = go (ltb i 10) refl
+-- ---- bounds on E and daily total bound those of a day
+years_fit : (first : ℕ) (l : FileData) (w : ℕ) → AtMost 1000000000000 l.energies → AtMost 13815826560 l.totals → (k : ℕ) → YearFits (get_or (years_on l.energies l.totals l.indexes first w) k no_year)
+unfolding years_on year_on
+years_fit first l w e t k = go (ltb k 10) refl
   where
-    at : ℕ → ℕ
-    at k = get_or xs (position_in k w) 0
+    on : ℕ → YearOnDay
+    on j = year_on l.energies l.totals l.indexes first w j
 
-    go : (b : Bool) → ltb i 10 ≡ b → get_or (tab 10 0 at) i 0 ≤ m
-    go true e = rw (get_d_tab0 10 at i 0 (ltb-true i 10 e)) (h (position_in i w))
-    go false e = rw (get_or-eq_default (tab 10 0 at) 0 {n = i} (omega (arith, length_tab 10 0 at, ltb-false i 10 e))) (omega arith)
+    go : (b : Bool) → ltb k 10 ≡ b → YearFits (get_or (tab 10 0 on) k no_year)
+    go true q = rw (get_d_tab0 10 on k no_year (ltb-true k 10 q)) (record { energy = e (position_in k w); total = t (position_in k w) })
+    go false q = rw (get_or-eq_default (tab 10 0 on) no_year {n = k} (omega (arith, length_tab 10 0 on, ltb-false k 10 q))) (record { energy = omega arith; total = omega arith })
 
 pub day_fits_lem : (b : SiteFactors) (l : FileData) (w : ℕ) → FileDataFits b l → DayFits b (day_in b.first l w)
 unfolding day_in
@@ -132,13 +132,12 @@ day_fits_lem b l w f =
     record {
       points = f.points;
       slots = f.slots;
-      energies = day_most 1000000000000 l.energies w f.energies;
-      totals = day_most 13815826560 l.totals w f.totals;
+      years = years_fit b.first l w f.energies f.totals;
       cas = f.cas;
     }
 
 -- what was looked up for a day is what its points are computed from
-pub day_is : (first : ℕ) (l : FileData) (w : ℕ) (on : YearsOnDay) → on ≡ years_on l.energies l.totals l.indexes first w
-    → day_with l.near l.far l.slots on l.curves l.cas ≡ day_in first l w
-unfolding day_in years_on
-day_is first l w on e = ap (λ (d : YearsOnDay). day_with l.near l.far l.slots d l.curves l.cas) e
+pub day_is : (first : ℕ) (l : FileData) (w : ℕ) (on : List YearOnDay) → on ≡ years_on l.energies l.totals l.indexes first w
+    → day l.near l.far l.slots on l.curves l.cas ≡ day_in first l w
+unfolding day_in
+day_is first l w on e = ap (λ (ys : List YearOnDay). day l.near l.far l.slots ys l.curves l.cas) e

@@ -159,6 +159,3 @@ pub years_over : (n : ℕ) (qs : ℕ → List CurvePlace) (k : ℕ) (t : PlaceSu
 unfolding flat
 years_over n qs k t present curve h w =
     sym (plus_nothing t) ∙ sym (ap (λ (l : List (List CurvePlace)). plus t (place_sum_of (flat l))) (tab_end qs k n h)) ∙ w.sums
-
-pub present_length : (n : ℕ) (qs : ℕ → List CurvePlace) (k : ℕ) (t : PlaceSum) (present curve : List ℕ) → YearsWalked n qs k t present curve → length present ≡ 10
-present_length n qs k t present curve w = ap length w.present_is ∙ length_tab 10 0 (present_at qs k)

@@ -1,7 +1,7 @@
 -- What is known of a site and its lists once 1 and 14 to 17 are checked, and what the loop over all years promises.
 use Rattle.std.specs.Prelude.{◌≡◌, List, ℕ, ◌*◌, ◌≤◌, T, length}
 use Rattle.curve.specs.YearPlaces.{FileData}
-use Rattle.points.specs.OwnFits.{PointsFit, SiteFactorsFit}
+use Rattle.points.specs.OwnFits.{PointsFit}
 use Rattle.history.specs.declared.cases.Case.{Case}
 use Rattle.history.specs.Fits.{AtMost}
 use Rattle.calendar.specs.Spans.{is_known}
@@ -9,7 +9,7 @@ use Rattle.meaning.specs.Blocks.{slots_size}
 use Rattle.points.specs.declared.own.SiteFactors.{SiteFactors}
 use Rattle.points.specs.Fits.{RatesFit}
 use Rattle.curve.specs.declared.CurveTotals.{CurveTotals}
-use Rattle.curve.specs.Places.{site_factors_of, curve_totals_of, curve_in}
+use Rattle.curve.specs.Places.{curve_totals_of, curve_in}
 
 -- a site that document 01 accepts
 pub record SiteFits (al f p : ℕ) : Type 0 where
@@ -30,7 +30,3 @@ pub record CurveTotalsAre (b : SiteFactors) (l : FileData) (cases : List Case) (
   pub curve : after ≡ curve_in b l cases rates
   pub sum : r.sum ≤ 20000000000000 * r.counted
   pub counted : r.counted ≤ 4400
-
-pub record SiteFactorsAre (al f ps : ℕ) (r : SiteFactors) : Type 0 where
-  pub is : r ≡ site_factors_of al f ps
-  pub fits : SiteFactorsFit r

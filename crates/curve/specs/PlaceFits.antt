@@ -1,7 +1,6 @@
 -- What is known of the lists once 1 and 14 to 17 are checked, and what a loop over places promises.
-use Rattle.std.specs.Prelude.{◌≡◌, List, ℕ, ◌<◌, length, get_or}
+use Rattle.std.specs.Prelude.{◌≡◌, List, ℕ, length}
 use Rattle.std.proofs.lemmas.List.Edits.{sets}
-use Rattle.note.specs.Peaks.{peak_days}
 use Rattle.meaning.specs.Points.{CurvePlace}
 use Rattle.meaning.specs.Blocks.{slots_size}
 use Rattle.history.specs.Fits.{AtMost}
@@ -25,7 +24,3 @@ pub record Entered (n at : ℕ) (qs : List CurvePlace) (before after : List ℕ)
   pub tally : t ≡ place_sum_of qs
   pub fits : PlaceSumFits n t
   pub curve : after ≡ sets before at (entries_of qs)
-
-pub record PeakDayIs (y j r : ℕ) : Type 0 where
-  pub is : r ≡ get_or (peak_days y) j 0
-  pub fits : r < 152

@@ -5,7 +5,7 @@ use Rattle.note.specs.Peaks.{peak_days}
 use Rattle.meaning.specs.Cases.{Case}
 use Rattle.meaning.specs.Points.{CurvePlace}
 use Rattle.history.specs.declared.ValidYears.{ValidYears}
-use Rattle.history.specs.Years.{on_day, is_donor_on}
+use Rattle.history.specs.Years.{years_on}
 use Rattle.points.specs.declared.own.SiteFactors.{SiteFactors}
 use Rattle.points.specs.Sources.{Day, day, source_in}
 use Rattle.curve.specs.PlaceSums.{place}
@@ -30,7 +30,7 @@ file_data_with n f s e t valid c = file_data n f s e t valid.curves valid.indexe
 
 -- what the points of a winter day are computed from
 unfoldable pub day_in : ℕ → FileData → ℕ → Day
-day_in first l w = day l.near l.far l.slots (on_day l.energies w) (on_day l.totals w) (is_donor_on l.indexes first w) l.curves l.cas
+day_in first l w = day l.near l.far l.slots (years_on l.energies l.totals l.indexes first w) l.curves l.cas
 
 -- ---- places: k is a year's number from the oldest, w a winter place, h a half-hour
 unfoldable pub places_on : SiteFactors → Day → Case → ℕ → ℕ → ℕ → List CurvePlace

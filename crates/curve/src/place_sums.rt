@@ -2,13 +2,14 @@
 ghost use Rattle.std.specs.Prelude.{◌≡◌, ◌+◌, ◌≤◌};
 ghost use Rattle.points.specs.OwnFits.{PlacePointFits};
 ghost use Rattle.points.specs.Fits.{RateFits};
-ghost use Rattle.curve.specs.PlaceSums.{entry_of_point, sum_of_point, plus as Tallies·plus};
+ghost use Rattle.curve.specs.PlaceSums.{entry_of_point, sum_of_point, plus as sums_plus};
 
 use blocks::NO_ENTRY;
 use rounding::{Exceeds, Power};
 
 // For some places: whether 18 holds, the sum in mW of the present points, and their number.
-// No `Result`: what is promised of sum and number holds where 18 does too, and the years go on then.
+// No `Result`: each place is entered and summed whether or not another exceeds, so that a sum is that of its places alone. An error would have to say
+// beside it what is left in the curve.
 #[derive(Clone, Copy)]
 pub(crate) struct PlaceSum {
     pub exceeds: bool,
@@ -58,7 +59,7 @@ impl PlaceSum {
     #[tactic(auto, unfolding(crate::specs::PlaceSums::plus))]
     pub(crate) fn plus(self, other: PlaceSum) -> PlaceSum
         requires { (self.sum + other.sum ≤ 88_000_000_000_000_000) × (self.counted + other.counted ≤ 4400) }
-        ensures { result ≡ Tallies·plus self other }
+        ensures { result ≡ sums_plus self other }
     {
         PlaceSum {
             exceeds: self.exceeds || other.exceeds,

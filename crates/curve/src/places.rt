@@ -1,18 +1,18 @@
 // The half-hours of a day and the peak days of a year: each point is entered in the curve and added to the sums.
 ghost use Rattle.std.specs.Prelude.{◌+◌, ◌*◌, ◌≤◌, ◌<◌};
-ghost use Rattle.note.specs.Peaks.{peak_count};
 ghost use Rattle.points.specs.OwnFits.{SiteFactorsFit};
 ghost use Rattle.history.specs.Cases.{case_view};
 ghost use Rattle.points.specs.Days.{day_view};
 ghost use Rattle.points.specs.Fits.{RateFits};
 ghost use Rattle.curve.specs.YearPlaces.{places_on, places_in};
 ghost use Rattle.curve.specs.Files.{file_view};
-ghost use Rattle.curve.specs.PlaceFits.{FileDataFits, Entered, PeakDayIs};
+ghost use Rattle.curve.specs.PlaceFits.{FileDataFits, Entered};
 
-use crate::FileData;
 use crate::place_sums::{NOTHING, PlaceSum, entry_of};
-use history::day_of;
-use note::peak_count;
+use crate::{FileData, YEAR_ENTRIES};
+use blocks::HALF_HOURS;
+use history::years_on;
+use note::peak_days;
 use points::{SiteFactors, TargetYear, WinterDay, point_of};
 
 // The site of a file, the file's data, and CA by history year, as 1 and 14 to 17 leave them.
@@ -25,7 +25,7 @@ pub(crate) struct SiteFile<'a> {
     ghost fits: { FileDataFits site.now (file_view file.now cas.now) },
 }
 
-// Enters the 20 half-hours of a day, from place `at` of the curve on.
+// Enters the half-hours of a day, from place `at` of the curve on. By place and not over a part of the curve: the promise is of the whole.
 fn half_hours(
     day: &WinterDay<'_>,
     target: TargetYear,
@@ -37,21 +37,13 @@ fn half_hours(
     ensures { Entered 20 at (places_on day.now.site.now (day_view day.now) (case_view target.case) target.rate target.k day.now.w) curve.old curve.new result }
 {
     let mut t = NOTHING;
-    for h in 0..20 {
+    for h in 0..HALF_HOURS {
         let point = point_of(day, target, h);
         let entry = entry_of(point, target.rate);
         curve[at + h] = entry;
         t = t.plus(PlaceSum::of(point, entry));
     }
     t
-}
-
-// The winter place of the year's j-th peak day.
-fn peak_place(year: u64, j: usize) -> usize
-    requires { j < peak_count year }
-    ensures { PeakDayIs year j result }
-{
-    note::peak_day(year, j).unwrap_or(0)
 }
 
 // Enters the peak days of a year, from its first place of the curve on. What a day needs of each year is looked up once.
@@ -66,29 +58,30 @@ pub(crate) fn year_places(
 {
     let site = site_file.site;
     let file = site_file.file;
-    let year = site.first + target.k as u64;
-    let days = peak_count(year);
+    let days = peak_days(site.first + target.k as u64);
     let mut t = NOTHING;
-    for j in 0..days {
-        let w = peak_place(year, j);
-        let years = day_of(
+    for (j, w) in days.iter().enumerate() {
+        let years = years_on(
             file.energies,
             file.totals,
             &file.valid.indexes,
             site.first,
-            w,
+            *w,
         );
         let day = WinterDay {
             site,
-            w,
-            near: file.near,
-            far: file.far,
-            slots: file.slots,
+            w: *w,
+            blocks: file.blocks,
             years: &years,
             curves: &file.valid.curves,
             cas: site_file.cas,
         };
-        let d = half_hours(&day, target, 440 * target.k + 20 * j, curve);
+        let d = half_hours(
+            &day,
+            target,
+            YEAR_ENTRIES * target.k + HALF_HOURS * j,
+            curve,
+        );
         t = t.plus(d);
     }
     t

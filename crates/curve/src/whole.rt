@@ -5,12 +5,13 @@ ghost use Rattle.history.specs.Years.{cas_from};
 ghost use Rattle.points.specs.Fits.{RatesFit};
 ghost use Rattle.curve.specs.Files.{file_view};
 ghost use Rattle.curve.specs.Places.{site_factors_of};
-ghost use Rattle.curve.specs.Fits.{SiteFits, ListsFit, SiteFactorsAre, CurveTotalsAre};
+ghost use Rattle.curve.specs.Fits.{SiteFits, ListsFit, CurveTotalsAre};
 
 use crate::place_sums::NOTHING;
 use crate::places::{SiteFile, year_places};
 use crate::{CurveTotals, FileData};
 use history::{Case, cas_from, cas_sum};
+use line_form::Site;
 use points::{SiteFactors, TargetYear};
 
 // Enters year after year, in a curve whose entries are all missing. A year is not cut short where a point is refusal 18: the curve is then not used.
@@ -45,42 +46,30 @@ fn all_years(
     }
 }
 
-// The history, theta and CA sum for a site's AL and filière.
-fn site_factors(al: u64, filiere: u64, ps: u64) -> SiteFactors
-    requires { SiteFits al filiere ps }
-    ensures { SiteFactorsAre al filiere ps result }
-{
-    let years = calendar::history(al, filiere);
-    let cas = cas_from(years.first, filiere);
-    let n = years.count as usize;
-    SiteFactors {
-        al,
-        first: years.first,
-        count: years.count,
-        ps,
-        theta: note::theta(filiere),
-        ca_sum: cas_sum(&cas, n),
-    }
-}
-
 // Fills the curve, whose entries are all missing before, and returns its totals.
 pub fn fill(
-    al: u64,
-    filiere: u64,
-    ps: u64,
+    site: Site,
     file: &FileData<'_>,
     cases: [Case; 10],
     rates: &[u64; 10],
     curve: &mut [u64; 4400],
 ) -> CurveTotals
-    requires site_fits { SiteFits al filiere ps × ListsFit al file.now.near.now file.now.far.now file.now.slots.now file.now.energies.now file.now.totals.now rates.now }
+    requires site_fits { SiteFits site.al site.filiere site.ps × ListsFit site.al file.now.blocks.now.near.now file.now.blocks.now.far.now file.now.blocks.now.slots.now file.now.energies.now file.now.totals.now rates.now }
     requires curve_value { curve.old ≡ replicate 4400 missing_entry }
-    ensures { CurveTotalsAre (site_factors_of al filiere ps) (file_view file.now (cas_from (site_factors_of al filiere ps).first filiere)) cases rates.now curve.new result }
+    ensures { CurveTotalsAre (site_factors_of site.al site.filiere site.ps) (file_view file.now (cas_from (site_factors_of site.al site.filiere site.ps).first site.filiere)) cases rates.now curve.new result }
 {
-    let site = site_factors(al, filiere, ps);
-    let cas = cas_from(site.first, filiere);
+    let history = site.history();
+    let cas = cas_from(history.first, site.filiere);
+    let factors = SiteFactors {
+        al: site.al,
+        first: history.first,
+        count: history.count,
+        ps: site.ps,
+        theta: note::theta(site.filiere),
+        ca_sum: cas_sum(&cas, history.count as usize),
+    };
     let site_file = SiteFile {
-        site: &site,
+        site: &factors,
         file,
         cas: &cas,
     };

@@ -13,7 +13,7 @@ pub enum End {
     Input,
 }
 
-// What ended the run, and the sheet's text.
+// What ended the run, which the clause of `run` alone reads, and the sheet's text.
 #[derive(Clone, Copy)]
 pub struct FileResult {
     pub end: End,
@@ -24,6 +24,5 @@ pub struct FileResult {
 pub fn write<W: Write>(to: &mut W, printed: Printed) -> io::Result<()>
     ensures { OnOk result (Appends (W.contents to.old) (W.contents to.new) (take (min printed.length 546) printed.bytes)) }
 {
-    let length = printed.length.min(546);
-    to.write_all(&printed.bytes[..length])
+    to.write_all(printed.as_bytes())
 }

@@ -14,8 +14,8 @@ pub fn sheet_of(input: &[u8]) -> Printed
     let mut slots = [0u16; 30400];
     let mut daily = [0u32; 4392];
     let mut curve = [0u64; 4400];
-    let opened = begin(&mut near, &mut far, &mut slots, &mut daily, &mut curve);
-    let fed = opened.feed(input, &mut near, &mut far, &mut slots, &mut daily, &curve);
-    let closed = fed.finish(&mut near, &mut far, &mut slots, &mut daily, &mut curve);
+    let mut own_run = begin(&mut near, &mut far, &mut slots, &mut daily, &mut curve);
+    own_run.feed(input, &mut near, &mut far, &mut slots, &mut daily, &curve);
+    let closed = own_run.finish(&mut near, &mut far, &mut slots, &mut daily, &mut curve);
     text(closed.answer, closed.years)
 }

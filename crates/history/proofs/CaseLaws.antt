@@ -1,10 +1,12 @@
 -- The cases of the history years, from which of them are valid.
-use mathlib.Core.Path.{◌≡◌, ap}
-use mathlib.Core.Bool.{Bool, cond}
-use mathlib.Core.List.{List}
-use Prim.Native.Nat.{ℕ}
+use mathlib.Core.Path.{◌≡◌, refl, ap, sym, ◌∙◌}
+use mathlib.Core.Bool.{Bool, false, cond, ◌||◌}
+use mathlib.Core.List.{List, [], ◌∷◌}
+use Prim.Native.Nat.{ℕ, zero, suc}
 use lib.Dec.{ltb}
-use Rattle.lists.specs.Lists.{any}
+use lib.ListN.{get_or, take}
+use Rattle.std.specs.List.{list_any}
+use Rattle.lists.specs.Lists.{any, tab}
 use Rattle.lists.proofs.Ranges.{any_tab}
 use Rattle.lists.proofs.Tables.{tab_same}
 use Rattle.meaning.specs.Filing.{Meter, no_meter, curve_meter, index_meter}
@@ -13,6 +15,30 @@ use Rattle.history.specs.declared.cases.Case.{Case}
 use Rattle.history.specs.declared.cases.Case.TheVariants.{M}
 use Rattle.history.specs.Years.{by_history}
 use Rattle.history.specs.Cases.{some_valid, is_curve, case_with, case_in, cases_of, marks_in, mark_in}
+
+-- whether one of the first n is valid
+abbrev found : ℕ → List Bool → ℕ → Bool
+found n valid i = any (λ b. b) (tab n i (λ k. get_or valid k false))
+
+found_later : (b : Bool) (valid : List Bool) (n i : ℕ) → found n (b ∷ valid) (suc i) ≡ found n valid i
+unfolding tab any
+found_later b valid zero i = refl
+found_later b valid (suc n) i = ap (λ (x : Bool). get_or valid i false || x) (found_later b valid n (suc i))
+
+found_none : (n i : ℕ) → found n [] i ≡ false
+unfolding tab any
+found_none zero i = refl
+found_none (suc n) i = found_none n (suc i)
+
+found_front : (n : ℕ) (valid : List Bool) → list_any (λ b. b) (take n valid) ≡ found n valid 0
+unfolding tab any
+found_front zero valid = refl
+found_front (suc n) [] = sym (found_none n 1)
+found_front (suc n) (b ∷ valid) = ap (λ (x : Bool). b || x) (found_front n valid ∙ sym (found_later b valid n 0))
+
+pub some_listed : (n : ℕ) (valid : List Bool) → list_any (λ b. b) (take n valid) ≡ some_valid n valid
+unfolding some_valid
+some_listed n valid = found_front n valid ∙ any_tab (λ b. b) n 0 (λ k. get_or valid k false)
 
 some_curve_lem : (n : ℕ) (curves indexes : List Bool) → any (λ (k : Mark). k.curve) (marks_in n curves indexes) ≡ some_valid n curves
 unfolding marks_in mark_in some_valid

@@ -3,7 +3,7 @@ use Rattle.std.specs.Prelude.{Bool, false, ◌&&◌, cond, List, ℕ, ◌+◌, �
 use Rattle.lists.specs.Lists.{tab, sum}
 use Rattle.calendar.specs.Places.{has_winter_date, date_of_winter}
 use Rattle.note.specs.Coefficients.{ca_of}
-use Rattle.history.specs.declared.DayData.{DayData}
+use Rattle.history.specs.declared.YearOnDay.{YearOnDay}
 
 -- ten places by history year: f for the n history years, z for years that the file does not have
 unfoldable pub by_history : {A : Type 0} → ℕ → A → (ℕ → A) → List A
@@ -13,17 +13,21 @@ by_history n z f = tab 10 0 (λ k. cond (ltb k n) (f k) z)
 unfoldable pub position_in : ℕ → ℕ → ℕ
 position_in k w = 366 * (k + 1) + date_of_winter w
 
--- the values of a list by position on one winter day of each year
-unfoldable pub on_day : List ℕ → ℕ → List ℕ
-on_day xs w = tab 10 0 (λ k. get_or xs (position_in k w) 0)
+-- past the ten years
+abbrev pub no_year : YearOnDay
+no_year = record { energy = 0; total = 0; is_donor = false }
 
--- which of ten years have a valid index and the date
-unfoldable pub is_donor_on : List Bool → ℕ → ℕ → List Bool
-is_donor_on indexes first w = tab 10 0 (λ k. get_or indexes k false && has_winter_date (first + k) w)
+-- the k-th year on a winter day, from E and daily total by position and the valid indexes: it is a donor where it has the date
+unfoldable pub year_on : List ℕ → List ℕ → List Bool → ℕ → ℕ → ℕ → YearOnDay
+year_on energies totals indexes first w k =
+    record {
+      energy = get_or energies (position_in k w) 0;
+      total = get_or totals (position_in k w) 0;
+      is_donor = get_or indexes k false && has_winter_date (first + k) w;
+    }
 
--- what a winter day needs of ten years, from E and daily total by position and the valid indexes
-unfoldable pub years_on : List ℕ → List ℕ → List Bool → ℕ → ℕ → DayData
-years_on energies totals indexes first w = record { energies = on_day energies w; totals = on_day totals w; is_donor = is_donor_on indexes first w }
+unfoldable pub years_on : List ℕ → List ℕ → List Bool → ℕ → ℕ → List YearOnDay
+years_on energies totals indexes first w = tab 10 0 (year_on energies totals indexes first w)
 
 -- CA of ten years, and the sum over the n history years
 unfoldable pub cas_from : ℕ → ℕ → List ℕ

@@ -1,8 +1,9 @@
 // The case of each history year, the first that fits, and which years have default power (document 01, Cases).
 ghost use Rattle.std.specs.Prelude.{◌≡◌, ◌≤◌};
 ghost use Rattle.meaning.specs.Cases.{mark, is_default};
+ghost use Rattle.meaning.specs.Text.{letter_of_case};
 ghost use Rattle.line_form.specs.Views.{meter_view};
-ghost use Rattle.history.specs.Cases.{case_view, is_curve, some_valid, case_with, cases_of, default_years};
+ghost use Rattle.history.specs.Cases.{case_view, case_with, cases_of, default_years};
 
 use crate::ValidYears;
 use line_form::Meter;
@@ -21,7 +22,27 @@ pub enum Case {
     I6,
 }
 
-// The case of a year, from the meter, whether some year's curve or index is valid, and whether its own are.
+impl From<Case> for u8 {
+    ghost from_gives = { λ case letter. letter ≡ letter_of_case (case_view case) };
+
+    // The letter or digit of a case on the sheet: the conversion itself.
+    #[tactic(auto, unfolding(meaning::specs::Text::letter_of_case))]
+    fn from(case: Case) -> u8 {
+        match case {
+            Case::M => b'M',
+            Case::T1 => b'1',
+            Case::T2 => b'2',
+            Case::T3 => b'3',
+            Case::T4 => b'4',
+            Case::P => b'P',
+            Case::I5 => b'5',
+            Case::I6 => b'6',
+        }
+    }
+}
+
+// The case of a year, from the meter, whether some year's curve or index is valid, and whether its own are. Each flag is a fact of the years, no choice
+// of steps.
 #[tactic(auto, unfolding(crate::specs::Cases::case_with, meaning::specs::Cases::curve_case, meaning::specs::Cases::index_case))]
 fn case_of(curve_meter: bool, some_curve: bool, some_index: bool, curve: bool, index: bool) -> Case
     ensures { result ≡ case_with curve_meter some_curve some_index (mark curve index) }
@@ -50,30 +71,15 @@ fn case_of(curve_meter: bool, some_curve: bool, some_index: bool, curve: bool, i
     Case::I6
 }
 
-fn is_curve(meter: Meter) -> bool
-    ensures { result ≡ is_curve (meter_view meter) }
-{
-    matches!(meter, Meter::Curve)
-}
-
-// Whether one of the first n years is valid.
-fn some_valid(valid: &[bool; 10], n: usize) -> bool
-    requires { n ≤ 10 }
-    ensures { result ≡ some_valid n valid.now }
-{
-    valid[..n].iter().any(|is_valid| *is_valid)
-}
-
 // The cases of the n history years.
-pub fn cases_of(meter: Meter, valid: ValidYears, n: usize) -> [Case; 10]
-    requires { n ≤ 10 }
+pub fn cases_of(meter: Option<Meter>, valid: ValidYears, n: usize) -> [Case; 10]
     ensures { result ≡ cases_of (meter_view meter) n valid.curves valid.indexes }
 {
     let curves = valid.curves;
     let indexes = valid.indexes;
-    let curve_meter = is_curve(meter);
-    let some_curve = some_valid(&curves, n);
-    let some_index = some_valid(&indexes, n);
+    let curve_meter = meter == Some(Meter::Curve);
+    let some_curve = curves.iter().take(n).any(|valid| *valid);
+    let some_index = indexes.iter().take(n).any(|valid| *valid);
     from_fn(|k| {
         if k < n {
             case_of(curve_meter, some_curve, some_index, curves[k], indexes[k])
@@ -91,7 +97,6 @@ fn is_default(case: Case) -> bool
 
 // Which of the n history years have default power.
 pub fn default_years(cases: [Case; 10], n: usize) -> [bool; 10]
-    requires { n ≤ 10 }
     ensures { result ≡ default_years n cases }
 {
     from_fn(|k| k < n && is_default(cases[k]))

@@ -1,30 +1,28 @@
 -- S, B, R and E: the checks of the code are the conditions of the line's refusal, and what it reads from an accepted line is what the line says.
-use Rattle.std.specs.Prelude.{Result, Ok}
+use Rattle.std.specs.Prelude.{Option, Some, None, Result, Ok}
 use Rattle.refusals.specs.declared.Refusal.{Refusal}
 use Rattle.refusals.specs.declared.Refusal.TheVariants.{Outside, TooSoon, Miscounted}
-use Rattle.refusals.specs.Refusals.{unless_reason}
+use Rattle.refusals.specs.Refusals.{refused_if, unless_reason}
 use mathlib.Core.Path.{◌≡◌, refl, ap, sym, ◌∙◌}
-use mathlib.Core.Bool.{Bool, true, false, not, ◌&&◌, ◌||◌}
-use mathlib.Core.Option.{none}
+use mathlib.Core.Bool.{false, not, ◌||◌}
 use Prim.Native.Nat.{ℕ}
-use lib.Dec.{eqb, leb}
-use Rattle.calendar.specs.declared.Years.{Years}
+use lib.Dec.{eqb}
 use Rattle.calendar.specs.Spans.{years, among, history_years}
 use Rattle.meaning.specs.Filing.{no_meter}
-use Rattle.meaning.specs.Line.{Line, Tag, S, B, R, E, number_at, year_on, site_on, key_of, most_power}
-use Rattle.meaning.specs.Refusals.{Before, outside, holds, refusal, is_too_soon}
+use Rattle.meaning.specs.Line.{Line, S, B, R, E, year_on, site_on, key_of}
+use Rattle.meaning.specs.Refusals.{outside, holds, refusal, is_too_soon}
 use Rattle.meaning.specs.Record.{is_within}
 use Rattle.line_form.specs.Views.{site_view, site_repr, meter_view, meter_repr}
 use Rattle.line_form.specs.declared.Site.{Site}
 use Rattle.line_form.specs.declared.Meter.{Meter}
-use Rattle.line_form.specs.declared.Meter.TheVariants.{NoMeter, Curve, Index}
+use Rattle.line_form.specs.declared.Meter.TheVariants.{Curve, Index}
 use Rattle.line_form.specs.Reads.{where_formed, is_formed, capped_at, site_read_of, rate_read_of}
 use Rattle.line_form.specs.Ranges.{is_site_outside, is_year_outside, is_rate_outside, is_count_outside}
 use Rattle.line_form.proofs.Capped.{early_history}
 use Rattle.line_form.proofs.Forms.{malformed}
 use Rattle.line_form.proofs.Checks.{outside_s, outside_b, outside_r, outside_e, exact_s, exact_b, exact_r, exact_e}
 use Rattle.line_checks.specs.Before.{Known, is_not_later, before_like, before_first, before_rising, before_end}
-use Rattle.line_checks.specs.Order.{and_then, refused_if, in_order, rising_checks, is_misplaced}
+use Rattle.line_checks.specs.Order.{and_then, in_order, rising_checks, is_misplaced}
 use Rattle.line_checks.specs.Places.{rate_on}
 use Rattle.line_checks.proofs.Chain.{Asks, clear, told, told_same, after_two, next_three, next_one, misplaced_rank, barred_first, needs_no_date, never_soon, never_falling, never_many, no_count}
 
@@ -33,7 +31,7 @@ module _ (l : Line) (last al f latest : ℕ) (k : Known B l) where
   break_asks : Asks (before_rising last (history_years al f) latest) l (record {
     misplaced = is_misplaced last B;
     malformed = not (is_formed B l);
-    outside = is_year_outside (history_years al f) (capped_at l 1);
+    outside = not (among (history_years al f) (capped_at l 1));
     no_date = false;
     not_later = is_not_later latest (capped_at l 1);
     too_soon = false;
@@ -59,7 +57,7 @@ module _ (l : Line) (last al f latest : ℕ) (k : Known B l) where
       }
 
   pub break_told : unless_reason (refusal (before_rising last (history_years al f) latest) l) (year_on l)
-      ≡ and_then (in_order (is_misplaced last B) (where_formed B l (capped_at l 1))) (λ y. and_then (rising_checks (is_year_outside (history_years al f) y) false latest y) (λ _. Ok y))
+      ≡ and_then (in_order (is_misplaced last B) (where_formed B l (capped_at l 1))) (λ y. and_then (rising_checks (not (among (history_years al f) y)) false latest y) (λ _. Ok y))
   unfolding holds before_rising before_like where_formed
   break_told =
       let h = history_years al f in
@@ -67,14 +65,14 @@ module _ (l : Line) (last al f latest : ℕ) (k : Known B l) where
       let y = capped_at l 1 in
       told_same (refusal b l) (year_on l) y (λ q. sym (exact_b h l (early_history al f) k.tag (clear b l q outside)))
       ∙ told B b l _ y k break_asks
-      ∙ after_two (is_misplaced last B) (is_formed B l) y (λ n. and_then (rising_checks (is_year_outside h n) false latest n) (λ _. Ok n)) _ (next_three (is_year_outside h y) false latest y (Ok y))
+      ∙ after_two (is_misplaced last B) (is_formed B l) y (λ n. and_then (rising_checks (not (among h n)) false latest n) (λ _. Ok n)) _ (next_three (not (among h y)) false latest y (Ok y))
 
 -- ---- R
 module _ (l : Line) (last al f latest : ℕ) (k : Known R l) where
   rate_asks : Asks (before_rising last (history_years al f) latest) l (record {
     misplaced = is_misplaced last R;
     malformed = not (is_formed R l);
-    outside = is_rate_outside (history_years al f) (rate_read_of l);
+    outside = not (among (history_years al f) (rate_read_of l).year) || not (is_within 10 1000 (rate_read_of l).rate);
     no_date = false;
     not_later = is_not_later latest (rate_read_of l).year;
     too_soon = false;
@@ -100,7 +98,7 @@ module _ (l : Line) (last al f latest : ℕ) (k : Known R l) where
       }
 
   pub rate_told : unless_reason (refusal (before_rising last (history_years al f) latest) l) (rate_on l)
-      ≡ and_then (in_order (is_misplaced last R) (where_formed R l (rate_read_of l))) (λ r. and_then (rising_checks (is_rate_outside (history_years al f) r) false latest r.year) (λ _. Ok r))
+      ≡ and_then (in_order (is_misplaced last R) (where_formed R l (rate_read_of l))) (λ r. and_then (rising_checks (not (among (history_years al f) r.year) || not (is_within 10 1000 r.rate)) false latest r.year) (λ _. Ok r))
   unfolding holds before_rising before_like where_formed rate_on
   rate_told =
       let h = history_years al f in
@@ -108,16 +106,16 @@ module _ (l : Line) (last al f latest : ℕ) (k : Known R l) where
       let r = rate_read_of l in
       told_same (refusal b l) (rate_on l) r (λ q. let x = exact_r h l (early_history al f) k.tag (clear b l q outside) in rw (← x.0, ← x.1))
       ∙ told R b l _ r k rate_asks
-      ∙ after_two (is_misplaced last R) (is_formed R l) r (λ n. and_then (rising_checks (is_rate_outside h n) false latest n.year) (λ _. Ok n)) _ (next_three (is_rate_outside h r) false latest r.year (Ok r))
+      ∙ after_two (is_misplaced last R) (is_formed R l) r (λ n. and_then (rising_checks (not (among h n.year) || not (is_within 10 1000 n.rate)) false latest n.year) (λ _. Ok n)) _ (next_three (not (among h r.year) || not (is_within 10 1000 r.rate)) false latest r.year (Ok r))
 
 -- ---- S
 shown_view : (s : Site) → site_repr (site_view s) ≡ s
-shown_view s = ap (λ (m : Meter). record { al = s.al; filiere = s.filiere; meter = m; ps = s.ps }) (shown_meter s.meter)
+shown_view s = ap (λ (m : Option Meter). record { al = s.al; filiere = s.filiere; meter = m; ps = s.ps }) (shown_meter s.meter)
   where
-    shown_meter : (m : Meter) → meter_repr (meter_view m) ≡ m
-    shown_meter NoMeter = refl
-    shown_meter Curve = refl
-    shown_meter Index = refl
+    shown_meter : (m : Option Meter) → meter_repr (meter_view m) ≡ m
+    shown_meter None = refl
+    shown_meter (Some Curve) = refl
+    shown_meter (Some Index) = refl
 
 module _ (l : Line) (last : ℕ) (k : Known S l) where
   site_asks : Asks (before_first last) l (record {

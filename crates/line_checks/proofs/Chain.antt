@@ -21,11 +21,11 @@ use Rattle.meaning.proofs.Passed.{passed}
 use Rattle.line_checks.specs.Before.{Known, is_not_later}
 use Rattle.refusals.specs.declared.Refusal.{Refusal}
 use Rattle.refusals.specs.declared.Refusal.TheVariants.{Misplaced, Malformed, Outside, NoDate, NotLater, TooSoon, Falling, TooMany, Miscounted}
-use Rattle.refusals.specs.Refusals.{of_reason, unless_reason}
-use Rattle.line_form.specs.declared.parts.DateRead.{DateRead}
+use Rattle.refusals.specs.Refusals.{refused_if, of_reason, unless_reason}
+use Rattle.calendar.specs.declared.Date.{Date}
 use Rattle.line_form.specs.Ranges.{no_date_for}
 use Rattle.line_checks.specs.Places.{key_for, dated_checks}
-use Rattle.line_checks.specs.Order.{Checks, number_by, asked, first_refusal, and_then, refused_if, in_order, rising_checks, is_misplaced}
+use Rattle.line_checks.specs.Order.{Checks, asked, first_refusal, and_then, in_order, rising_checks, is_misplaced}
 
 -- ---- the refusal by the checks in order, and what is told where none holds
 abbrev pub in_turn : {A : Type 0} → Checks → A → Result A Refusal
@@ -120,7 +120,7 @@ then_ok : {A B C : Type 0} (r : Result A Refusal) (x : B) (g : B → Result C Re
 then_ok (Ok a) x g = refl
 then_ok (Err y) x g = refl
 
-pub next_dated : {A : Type 0} (o winter : Bool) (d : DateRead) (last : ℕ) (g : ℕ → Result A Refusal) (r : Result A Refusal) → r ≡ g (key_for d.year d.month d.day)
+pub next_dated : {A : Type 0} (o winter : Bool) (d : Date) (last : ℕ) (g : ℕ → Result A Refusal) (r : Result A Refusal) → r ≡ g (key_for d.year d.month d.day)
     → cond o (Err Outside) (cond (no_date_for winter d.year d.month d.day) (Err NoDate) (cond (is_not_later last (key_for d.year d.month d.day)) (Err NotLater) r))
     ≡ and_then (dated_checks o winter d last) g
 unfolding dated_checks
@@ -163,7 +163,7 @@ unfolding unless_reason err_in
 told_err none a d e = absurd (subst T (sym (ap is_ok e)) tt)
 told_err (some y) a d e = (y, refl, ap (err_in d) e)
 
--- ---- what a number says about the refusal
+-- ---- no refusal has number 0
 pub number_above : (y : Reason) → number_of y ≡ 0 → ⊥
 unfolding number_of
 number_above illegible e = omega arith
@@ -177,11 +177,6 @@ number_above too_soon e = omega arith
 number_above falling e = omega arith
 number_above too_many e = omega arith
 number_above miscounted e = omega arith
-
--- 0 is no refusal's number
-pub no_refusal : (o : Option Reason) (n : ℕ) → n ≡ number_by o → n ≡ 0 → o ≡ none
-no_refusal none n p e = refl
-no_refusal (some y) n p e = absurd (number_above y (sym p ∙ e))
 
 -- where there is no refusal no condition holds
 pub clear : (b : Before) (l : Line) → refusal b l ≡ none → (y : Reason) → holds y b l ≡ false

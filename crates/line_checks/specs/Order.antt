@@ -2,18 +2,13 @@
 use Rattle.std.specs.Prelude as std
 use Rattle.std.specs.Prelude.{Bool, false, cond, ◌||◌, ℕ, eqb, ltb, Result, Ok, Err}
 use Rattle.std.specs.Option.{ok_or}
-use Rattle.std.proofs.Math.Option.{Option, some, none}
+use Rattle.std.proofs.Math.Option.{Option}
 use Rattle.lists.specs.Lists.{first_of}
 use Rattle.meaning.specs.Line.{Tag, rank}
-use Rattle.meaning.specs.Refusals.{Reason, illegible, unknown, misplaced, malformed, outside, no_date, not_later, too_soon, falling, too_many, miscounted, number_of, order}
+use Rattle.meaning.specs.Refusals.{Reason, illegible, unknown, misplaced, malformed, outside, no_date, not_later, too_soon, falling, too_many, miscounted, order}
 use Rattle.refusals.specs.declared.Refusal.{Refusal}
 use Rattle.refusals.specs.declared.Refusal.TheVariants.{Misplaced, Malformed, Outside, NoDate, NotLater}
 use Rattle.line_checks.specs.Before.{is_not_later}
-
--- the number of a refusal, 0 for none
-abbrev pub number_by : Option Reason → ℕ
-number_by none = 0
-number_by (some y) = number_of y
 
 -- which of 4 to 12 hold for a line
 pub record Checks : Type 0 where
@@ -49,10 +44,7 @@ abbrev pub and_then : {A B : Type 0} → Result A Refusal → (A → Result B Re
 and_then (Ok a) f = f a
 and_then (Err y) f = Err y
 
--- ---- the refusal where a check holds; 4 and 5; 6, 7 and 8
-unfoldable pub refused_if : Bool → Refusal → Result Unit Refusal
-refused_if b y = cond b (Err y) (Ok tt)
-
+-- ---- 4 and 5; 6, 7 and 8
 unfoldable pub in_order : {A : Type 0} → Bool → std.Option A → Result A Refusal
 in_order m r = cond m (Err Misplaced) (ok_or r Malformed)
 

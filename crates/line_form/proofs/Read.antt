@@ -1,4 +1,4 @@
--- Laws of what is read from a line: whether it is legible, and the shape and the number of each field of a legible line.
+-- Laws of what is read from a line: whether it is legible, and each field of a legible line.
 use mathlib.Core.Path.{◌≡◌, refl, ap, ◌∙◌}
 use mathlib.Core.Bool.{Bool, true, false, cond}
 use Rattle.std.specs.Prelude.{Option, Some, None}
@@ -6,11 +6,10 @@ use Prim.Native.Nat.{ℕ, ◌+◌, ◌<◌, min}
 use lib.ListN.{get_or}
 use Rattle.lists.proofs.Laws.{get_d_tab0}
 use Rattle.text.specs.Fields.{tabs, field_at}
-use Rattle.text.specs.Numbers.{value_of, most}
 use Rattle.meaning.specs.Line.{Line}
 use Rattle.meaning.specs.Refusals.{is_illegible}
-use Rattle.line_form.specs.Shapes.{shape_of}
-use Rattle.line_form.specs.Fields.{field_of, fields_in, fields_of, ReadFrom}
+use Rattle.line_form.specs.Shapes.{field_of}
+use Rattle.line_form.specs.Fields.{fields_in, fields_of, ReadFrom}
 use Rattle.line_form.specs.declared.Field.{Field}
 use Rattle.line_form.specs.declared.Fields.{Fields}
 
@@ -38,11 +37,3 @@ count_of l f t = ap (λ (g : Fields). g.count) t.read
 pub field_at_lem : (l : Line) (f : Fields) → ReadFrom f l → (k : ℕ) (d : Field) → k < 24 → get_or f.fields k d ≡ field_of (field_at l k)
 unfolding fields_in
 field_at_lem l f t k d h = ap (λ (g : Fields). get_or g.fields k d) t.read ∙ get_d_tab0 24 (λ j. field_of (field_at l j)) k d h
-
-pub shape_at : (l : Line) (f : Fields) → ReadFrom f l → (k : ℕ) (d : Field) → k < 24 → (get_or f.fields k d).shape ≡ shape_of (field_at l k)
-unfolding field_of
-shape_at l f t k d h = ap (λ (x : Field). x.shape) (field_at_lem l f t k d h)
-
-pub value_at_lem : (l : Line) (f : Fields) → ReadFrom f l → (k : ℕ) (d : Field) → k < 24 → (get_or f.fields k d).value ≡ min (value_of (field_at l k)) most
-unfolding field_of
-value_at_lem l f t k d h = ap (λ (x : Field). x.value) (field_at_lem l f t k d h)

@@ -10,7 +10,6 @@ use native.Mathlib.Numerals.{add-one}
 use lib.Dec.{eqb, ltb}
 use lib.ListN.{length, take, set, replicate}
 use borrow.Author.Tests.{lt-ltb, le-ltb, ltb-true, ltb-false}
-use Rattle.text.specs.Numbers.{value_from, value_of}
 use Rattle.lists.specs.Lists.{tab, any}
 use Rattle.lists.proofs.Tables.{tab_same}
 use Rattle.lists.proofs.FilledTables.{set_tab}
@@ -19,32 +18,28 @@ use Rattle.text.specs.declared.NumberField.{NumberField}
 use Rattle.text.proofs.Laws.{FieldRead, first_of, past_none, field_beyond, some_read, none_read}
 use Rattle.meaning.specs.Line.{Line}
 use Rattle.meaning.specs.Refusals.{is_illegible}
-use Rattle.line_form.specs.Shapes.{shape_by, shape_of}
-use Rattle.line_form.specs.Fields.{field_of, no_field, fields_in, fields_of}
-use Rattle.line_form.specs.declared.Shape.{Shape}
+use Rattle.line_form.specs.Shapes.{field_by, field_of}
+use Rattle.line_form.specs.Fields.{fields_in, fields_of}
 use Rattle.line_form.specs.declared.Field.{Field}
+use Rattle.line_form.specs.declared.Field.TheVariants.{Other}
 use Rattle.line_form.specs.declared.Fields.{Fields}
-use Rattle.line_form.proofs.Shaped.{shape_empty}
-
-field_empty : field_of [] ≡ no_field
-unfolding field_of value_of value_from
-field_empty = rw shape_empty
+use Rattle.line_form.proofs.Shaped.{field_empty}
 
 -- ---- the first k fields, with an empty field in place of each other
 abbrev pub first_ones : Line → ℕ → List Field
-first_ones l k = tab 24 0 (λ j. cond (ltb j k) (field_of (field_at l j)) no_field)
+first_ones l k = tab 24 0 (λ j. cond (ltb j k) (field_of (field_at l j)) Other)
 
 pub ones_on : (l : Line) (xs : List Field) (k : ℕ) (x : Field) → k < 24 → xs ≡ first_ones l k → x ≡ field_of (field_at l k) → set xs k x ≡ first_ones l (k + 1)
-ones_on l xs k x h e p = rw e (set_tab 24 _ _ k x no_field h (rw (lt-ltb k (k + 1) (omega arith)) p) (λ j n. other j n (ltb j k) refl))
+ones_on l xs k x h e p = rw e (set_tab 24 _ _ k x Other h (rw (lt-ltb k (k + 1) (omega arith)) p) (λ j n. other j n (ltb j k) refl))
   where
-    other : (j : ℕ) → (j ≡ k → ⊥) → (b : Bool) → ltb j k ≡ b → cond (ltb j k) (field_of (field_at l j)) no_field ≡ cond (ltb j (k + 1)) (field_of (field_at l j)) no_field
+    other : (j : ℕ) → (j ≡ k → ⊥) → (b : Bool) → ltb j k ≡ b → cond (ltb j k) (field_of (field_at l j)) Other ≡ cond (ltb j (k + 1)) (field_of (field_at l j)) Other
     other j n true q = rw (q, lt-ltb j (k + 1) (omega (arith, ltb-true j k q)))
     other j n false q = rw (q, le-ltb j (k + 1) (omega (arith, ltb-false j k q)))
 
 pub ones_all : (l : Line) (k : ℕ) → (24 ≤ k) ⊎ (tabs l < k) → first_ones l k ≡ tab 24 0 (λ j. field_of (field_at l j))
 ones_all l k h = tab_same 24 0 _ _ (λ j i. at j i (ltb j k) refl)
   where
-    at : (j : ℕ) → j < 0 + 24 → (b : Bool) → ltb j k ≡ b → cond (ltb j k) (field_of (field_at l j)) no_field ≡ field_of (field_at l j)
+    at : (j : ℕ) → j < 0 + 24 → (b : Bool) → ltb j k ≡ b → cond (ltb j k) (field_of (field_at l j)) Other ≡ field_of (field_at l j)
     at j i true q = rw q
     at j i false q = rw q (sym (ap field_of (⊎_elim (λ w. absurd (omega (arith, ltb-false j k q))) (λ w. field_beyond l j (omega (arith, ltb-false j k q))) h) ∙ field_empty))
 
@@ -94,12 +89,12 @@ pub record ReadSoFar (l : Line) (fs : List Field) (t : List ℕ) (k : ℕ) : Typ
   pub clean : any is_invalid l ≡ any is_invalid t
   pub count : tabs l ≡ k + tabs t
 
-none_yet : (n i : ℕ) (f : ℕ → Field) → replicate n no_field ≡ tab n i (λ j. cond (ltb j 0) (f j) no_field)
+none_yet : (n i : ℕ) (f : ℕ → Field) → replicate n Other ≡ tab n i (λ j. cond (ltb j 0) (f j) Other)
 unfolding tab
 none_yet zero i f = refl
-none_yet (suc n) i f = rw (le-ltb i 0 (omega arith)) (ap (λ (r : List Field). no_field ∷ r) (none_yet n (suc i) f))
+none_yet (suc n) i f = rw (le-ltb i 0 (omega arith)) (ap (λ (r : List Field). Other ∷ r) (none_yet n (suc i) f))
 
-pub nothing_read : (l : Line) → ReadSoFar l (replicate 24 no_field) l 0
+pub nothing_read : (l : Line) → ReadSoFar l (replicate 24 Other) l 0
 unfolding rest_at
 nothing_read l = record { fields = none_yet 24 0 _; rest = refl; clean = refl; count = omega arith }
 
@@ -111,10 +106,9 @@ module _ (l : Line) (fields : List Field) (rest : List ℕ) (k : ℕ) (w : ReadS
   unfolding field_at
   here = ap up_to w.rest
 
-  pub field_on : (f : List ℕ) (x : Shape) → k < 24 → f ≡ take n.length rest → x ≡ shape_by n.formed f
-      → set fields k (record { shape = x; value = n.value }) ≡ first_ones l (k + 1)
-  unfolding field_of shape_of
-  field_on f x h p q = ones_on l fields k _ h w.fields (rw (q, p, e.formed_is, e.value_is, first_of rest _ e.length_is, here))
+  pub field_on : (f : List ℕ) (x : Field) → k < 24 → f ≡ take n.length rest → x ≡ field_by n.number f → set fields k x ≡ first_ones l (k + 1)
+  unfolding field_of
+  field_on f x h p q = ones_on l fields k _ h w.fields (rw (q, p, e.number_is, first_of rest _ e.length_is, here))
 
   clean_past : any is_invalid l ≡ any is_invalid (past rest)
   clean_past = w.clean ∙ invalid_parts rest ∙ rw e.valid
@@ -158,8 +152,8 @@ module _ (l : Line) (z : eqb (length l) 0 ≡ false) (h : length l ≤ 320) wher
 
   module _ (fields : List Field) (rest : List ℕ) (k : ℕ) (w : ReadSoFar l fields rest k) where
     -- the line ends with its k-th field
-    pub last_field : (n : NumberField) (e : FieldRead n rest) → k < 24 → length rest ≤ n.length → (f : List ℕ) (x : Shape) → f ≡ take n.length rest
-        → x ≡ shape_by n.formed f → ◌≡◌ {A = Option Fields} (Some (record { count = k + 1; fields = set fields k (record { shape = x; value = n.value }) })) (fields_of l)
+    pub last_field : (n : NumberField) (e : FieldRead n rest) → k < 24 → length rest ≤ n.length → (f : List ℕ) (x : Field) → f ≡ take n.length rest
+        → x ≡ field_by n.number f → ◌≡◌ {A = Option Fields} (Some (record { count = k + 1; fields = set fields k x })) (fields_of l)
     unfolding any
     last_field n e j g f x p px =
         let none : length rest ≤ tab_at rest = omega (arith, e.length_is) in

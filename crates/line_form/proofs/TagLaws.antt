@@ -5,18 +5,20 @@ use Prim.Native.Nat.{ℕ, ◌+◌, ◌<◌}
 use native.Mathlib.Omega.{arith}
 use lib.Dec.{T, eqb, eqb→eq}
 use lib.ListN.{get_or}
-use borrow.Author.Tests.{eq-eqb, ne_eqb}
+use Rattle.std.specs.Bool.{then_some}
 use Rattle.text.specs.Fields.{up_to, tabs, rest_at, field_at}
+use Rattle.text.proofs.NumberLaws.{eqb_capped}
 use Rattle.meaning.specs.Line.{Line, Tag, S, C, X, D, P, B, R, E, other, is, size, tag_of, tag_of_letter}
 use Rattle.meaning.specs.Refusals.{is_unknown}
 use Rattle.line_form.specs.Fields.{ReadFrom}
 use Rattle.line_form.specs.Shapes.{byte_of}
-use Rattle.line_form.specs.declared.Shape.{Shape}
+use Rattle.line_form.specs.Tags.{known_tag}
+use Rattle.line_form.specs.Views.{tag_view, known_view}
 use Rattle.line_form.specs.declared.Field.{Field}
 use Rattle.line_form.specs.declared.Fields.{Fields}
-use Rattle.line_form.proofs.Shaped.{shape_tag}
-use Rattle.line_form.proofs.Read.{shape_at, count_of}
-use Rattle.line_form.specs.Tags.{known_tag}
+use Rattle.line_form.specs.declared.Tag as form
+use Rattle.line_form.proofs.Shaped.{by_byte, shape_tag}
+use Rattle.line_form.proofs.Read.{field_at_lem, count_of}
 
 -- ---- the number of fields
 size_most : (t : Tag) → size t < 25
@@ -30,23 +32,28 @@ size_most R = omega arith
 size_most E = omega arith
 size_most other = omega arith
 
--- from the values in the code: the letter's tag t
-module _ (f : Fields) (d : Field) (t : Tag) (rt : t ≡ tag_of_letter (byte_of (get_or f.fields 0 d).shape)) (l : Line) (w : ReadFrom f l) where
-  tag_here : t ≡ tag_of l
-  unfolding tag_of field_at rest_at
-  tag_here = rt ∙ ap (λ (x : Shape). tag_of_letter (byte_of x)) (shape_at l f w 0 d (omega arith)) ∙ sym (shape_tag (up_to l))
+-- from the values in the code
+module _ (f : Fields) (d : Field) (l : Line) (w : ReadFrom f l) where
+  pub known_by : (t : Tag) → t ≡ by_byte other tag_of_letter (byte_of (get_or f.fields 0 d)) → known_tag l ≡ cond (eqb f.count (size t)) t other
+  unfolding known_tag is_unknown tag_of field_at rest_at
+  known_by t e =
+      let here : tag_of l ≡ t = shape_tag (up_to l) ∙ rw e (ap (λ (x : Field). by_byte other tag_of_letter (byte_of x)) (sym (field_at_lem l f w 0 d (omega arith)))) in
+      rw (here, count_of l f w, eqb_capped 25 (tabs l + 1) (size t) (size_most t)) (go (eqb (tabs l + 1) (size t)))
+    where
+      go : (b : Bool) → cond (not b) other t ≡ cond b t other
+      go true = refl
+      go false = refl
 
-  pub known : f.count ≡ size t → t ≡ known_tag l
-  unfolding known_tag is_unknown
-  known h = let s = ap size tag_here in rw (eq-eqb (tabs l + 1) (size (tag_of l)) (omega (arith, count_of l f w, s, size_most (tag_of l)))) tag_here
+  pub none_by : other ≡ by_byte other tag_of_letter (byte_of (get_or f.fields 0 d)) → other ≡ known_tag l
+  none_by e = sym (known_by other e ∙ go (eqb f.count (size other)))
+    where
+      go : (b : Bool) → cond b other other ≡ other
+      go true = refl
+      go false = refl
 
-  pub not_known : (f.count ≡ size t → ⊥) → other ≡ known_tag l
-  unfolding known_tag is_unknown
-  not_known h = let s = ap size tag_here in rw (ne_eqb (tabs l + 1) (size (tag_of l)) (λ (e : tabs l + 1 ≡ size (tag_of l)). h (omega (arith, count_of l f w, s, size_most (tag_of l)))))
-
-  -- no tag has no fields
-  pub no_letter : t ≡ other → other ≡ known_tag l
-  no_letter e = not_known (λ h. absurd (omega (arith, count_of l f w, h, ap size e)))
+pub shown_if : (b : Bool) (t : form.Tag) → known_view (then_some b t) ≡ cond b (tag_view t) other
+shown_if true t = refl
+shown_if false t = refl
 
 -- ---- 3, by the known tag
 -- a line with no known tag is unknown

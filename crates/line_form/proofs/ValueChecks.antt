@@ -1,15 +1,14 @@
--- 5 and 6 of a C or P line from what is read from it, and what the blocks hold after it.
+-- 5 and 6 of a C or P line from what is read from it.
 use mathlib.Core.Path.{◌≡◌, refl, ap, sym, ◌∙◌}
 use mathlib.Core.Bool.{Bool, true, false, not, ◌&&◌, ◌||◌, cond}
 use mathlib.Core.List.{List}
-use Prim.Native.Nat.{ℕ, zero, suc, ◌+◌, ◌≤◌, ◌<◌, min}
+use Prim.Native.Nat.{ℕ, zero, suc, ◌+◌, min}
 use native.Mathlib.Omega.{arith}
 use lib.Dec.{leb, ltb, eqb}
-use lib.ListN.{length, get_or, replicate}
-use borrow.Author.Tests.{ltb-false, ne_eqb}
+use lib.ListN.{length, replicate}
+use borrow.Author.Tests.{ne_eqb}
 use Rattle.lists.specs.Lists.{any, tab}
 use Rattle.lists.proofs.Laws.{length_tab}
-use Rattle.lists.proofs.Tabs.{any_at}
 use Rattle.lists.proofs.Tests.{or_parts}
 use Rattle.calendar.specs.declared.Years.{Years}
 use Rattle.calendar.specs.Spans.{among}
@@ -18,12 +17,11 @@ use Rattle.text.specs.Numbers.{most, value_of, is_dash}
 use Rattle.text.proofs.NumberLaws.{ltb_capped}
 use Rattle.meaning.specs.Line.{Line, C, P, tag_of, Form, number, number_or_dash, forms_of, in_range, some_field, number_at, year_on, value_at, most_power, most_profile}
 use Rattle.meaning.specs.Refusals.{is_outside}
-use Rattle.meaning.specs.Blocks.{missing_point}
 use Rattle.line_form.specs.Reads.{capped_at, date_read_of}
 use Rattle.line_form.proofs.ReadFields.{rest_suc}
 use Rattle.line_form.proofs.Capped.{Early, not_leb, above_capped}
 use Rattle.line_form.proofs.Checks.{either, year_off, year_exact}
-use Rattle.line_form.specs.Codes.{dash, point_row, profile_row, is_point_outside, is_profile_outside, stored_point}
+use Rattle.line_form.specs.Codes.{dash, point_row, profile_row, is_point_outside, is_profile_outside}
 use Rattle.line_form.specs.ValueRanges.{is_points_outside, is_profiles_outside}
 
 -- ---- 6
@@ -86,17 +84,6 @@ unfolding date_read_of is_profiles_outside
 exact_p h l y e o =
     let p = or_parts (not (among h (capped_at l 1))) (any is_profile_outside (profile_row l)) (sym (outside_p h l y e) ∙ o) in
     (year_exact h l 1 (omega arith) p.0, p.1)
-
--- ---- a value that is not outside fits its block: 32 bits for a point, 16 for a profile value
-pub point_fits_lem : (vs : List ℕ) → any is_point_outside vs ≡ false → (k : ℕ) → k < length vs → stored_point (get_or vs k 0) ≤ missing_point
-point_fits_lem vs o k h = unfold stored_point is_point_outside in go (get_or vs k 0) (any_at is_point_outside vs o k 0 h)
-  where
-    go : (v : ℕ) → (not (eqb v dash) && ltb most_power v) ≡ false → cond (eqb v dash) missing_point v ≤ missing_point
-    go v e = at (eqb v dash) e
-      where
-        at : (b : Bool) → (not b && ltb most_power v) ≡ false → cond b missing_point v ≤ missing_point
-        at true e = omega arith
-        at false e = let h : v ≤ most_power = ltb-false most_power v e in omega arith
 
 -- ---- the number of values
 pub point_count : (l : Line) → length (point_row l) ≡ 20

@@ -4,7 +4,6 @@ use Rattle.lists.specs.Lists.{tab}
 use Rattle.text.specs.Fields.{field_at}
 use Rattle.text.specs.Numbers.{is_dash, most}
 use Rattle.meaning.specs.Line.{Line, value_at, most_power, most_profile}
-use Rattle.meaning.specs.Blocks.{missing_point}
 
 -- 2^64 - 1
 abbrev pub dash : ℕ
@@ -24,7 +23,3 @@ is_point_outside v = not (eqb v dash) && ltb most_power v
 
 unfoldable pub is_profile_outside : ℕ → Bool
 is_profile_outside v = ltb most_profile v
-
--- what the block holds for a point's code
-unfoldable pub stored_point : ℕ → ℕ
-stored_point v = cond (eqb v dash) missing_point v

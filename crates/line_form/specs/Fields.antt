@@ -1,26 +1,15 @@
 -- The fields of a line, as found in one pass over its bytes (document 01, Calls and the lines of a file).
-use Rattle.std.specs.Prelude.{◌≡◌, Option, Some, None, false, cond, List, ℕ, ◌+◌, min}
+use Rattle.std.specs.Prelude.{◌≡◌, Option, Some, None, false, cond, ℕ, ◌+◌, min}
 use Rattle.lists.specs.Lists.{tab}
 use Rattle.text.specs.Fields.{tabs, field_at}
-use Rattle.text.specs.Numbers.{value_of, most}
 use Rattle.meaning.specs.Line.{Line}
 use Rattle.meaning.specs.Refusals.{is_illegible}
-use Rattle.line_form.specs.Shapes.{shape_of}
-use Rattle.line_form.specs.declared.Shape.TheVariants.{Other}
-use Rattle.line_form.specs.declared.Field.{Field}
+use Rattle.line_form.specs.Shapes.{field_of}
 use Rattle.line_form.specs.declared.Fields.{Fields}
 
 -- no line of any tag has more fields
 abbrev pub most_fields : ℕ
 most_fields = 24
-
--- a field from its bytes
-unfoldable pub field_of : List ℕ → Field
-field_of f = record { shape = shape_of f; value = min (value_of f) most }
-
--- a place past the last field
-abbrev pub no_field : Field
-no_field = record { shape = Other; value = 0 }
 
 -- the fields of a legible line
 unfoldable pub fields_in : Line → Fields

@@ -4,13 +4,14 @@ use Rattle.std.specs.Bool.{then_some}
 use Rattle.text.specs.Fields.{past, field_at}
 use Rattle.text.specs.Numbers.{is_number, most}
 use Rattle.meaning.specs.Filing as meant
-use Rattle.meaning.specs.Line.{Line, Tag, Form, forms_of, in_form, some_field, number_at, meter_of, kind_of, is_meter, is_kind}
+use Rattle.meaning.specs.Line.{Line, Tag, Form, forms_of, in_form, some_field, number_at, meter_of, kind_of, is_kind}
 use Rattle.readings.specs.declared.Kind.{Kind}
 use Rattle.readings.specs.Readings.{kind_repr}
 use Rattle.line_form.specs.Views.{meter_repr}
-use Rattle.line_form.specs.declared.Meter.{Meter}
 use Rattle.line_form.specs.declared.Site.{Site}
-use Rattle.line_form.specs.declared.parts.DateRead.{DateRead}
+use Rattle.calendar.specs.declared.Date.{Date}
+use Rattle.line_form.specs.Codes.{point_row, profile_row}
+use Rattle.line_form.specs.declared.values.ValuesRead.{ValuesRead}
 use Rattle.line_form.specs.declared.axis_fields.ReadingRead.{ReadingRead}
 use Rattle.line_form.specs.declared.axis_fields.DailyRead.{DailyRead}
 use Rattle.line_form.specs.declared.year_fields.RateRead.{RateRead}
@@ -35,24 +36,28 @@ capped_at l n = min (number_at l n) most
 unfoldable pub where_formed : {A : Type 0} → Tag → Line → A → Option A
 where_formed t l a = then_some (is_formed t l) a
 
--- the meter of a letter that is one, the kind of a letter that is one
-unfoldable pub meter_where : meant.Meter → Option Meter
-meter_where m = then_some (is_meter m) (meter_repr m)
-
+-- the kind of a letter that is one
 unfoldable pub kind_where : meant.Kind → Option Kind
 kind_where k = then_some (is_kind k) (kind_repr k)
 
 -- the date of a C, P, X or D line, and that date where its three fields are numbers
-unfoldable pub date_read_of : Line → DateRead
+unfoldable pub date_read_of : Line → Date
 date_read_of l = record { year = capped_at l 1; month = capped_at l 2; day = capped_at l 3 }
 
-unfoldable pub dated_read_of : Line → Option DateRead
+unfoldable pub dated_read_of : Line → Option Date
 dated_read_of l = then_some (is_date_formed l) (date_read_of l)
 
 -- ---- what a line says: the year of a B line and the count of an E line are its first number, capped
 -- S
 unfoldable pub site_read_of : Line → Site
 site_read_of l = record { al = capped_at l 2; filiere = capped_at l 3; meter = meter_repr (meter_of (field_at l 4)); ps = capped_at l 5 }
+
+-- C and P
+unfoldable pub points_read_of : Line → ValuesRead
+points_read_of l = record { date = date_read_of l; codes = point_row l }
+
+unfoldable pub profiles_read_of : Line → ValuesRead
+profiles_read_of l = record { date = date_read_of l; codes = profile_row l }
 
 -- X
 unfoldable pub reading_read_of : Line → ReadingRead

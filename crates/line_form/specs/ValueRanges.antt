@@ -4,10 +4,10 @@ use Rattle.lists.specs.Lists.{any}
 use Rattle.calendar.specs.declared.Years.{Years}
 use Rattle.calendar.specs.Spans.{among}
 use Rattle.line_form.specs.Codes.{is_point_outside, is_profile_outside}
-use Rattle.line_form.specs.declared.parts.DateRead.{DateRead}
+use Rattle.calendar.specs.declared.Date.{Date}
 
-unfoldable pub is_points_outside : Years → DateRead → List ℕ → Bool
+unfoldable pub is_points_outside : Years → Date → List ℕ → Bool
 is_points_outside h r codes = not (among h r.year) || any is_point_outside codes
 
-unfoldable pub is_profiles_outside : Years → DateRead → List ℕ → Bool
+unfoldable pub is_profiles_outside : Years → Date → List ℕ → Bool
 is_profiles_outside h r codes = not (among h r.year) || any is_profile_outside codes

@@ -6,7 +6,7 @@ use Rattle.meaning.specs.Line as lines
 use Rattle.line_form.specs.declared.Tag.{Tag}
 use Rattle.line_form.specs.declared.Tag.TheVariants.{S, C, X, D, P, B, R, E}
 use Rattle.line_form.specs.declared.Meter.{Meter}
-use Rattle.line_form.specs.declared.Meter.TheVariants.{NoMeter, Curve, Index}
+use Rattle.line_form.specs.declared.Meter.TheVariants.{Curve, Index}
 use Rattle.line_form.specs.declared.Site.{Site}
 
 abbrev pub tag_view : Tag → lines.Tag
@@ -24,19 +24,19 @@ abbrev pub known_view : Option Tag → lines.Tag
 known_view None = lines.other
 known_view (Some t) = tag_view t
 
-abbrev pub meter_view : Meter → meant.Meter
-meter_view NoMeter = no_meter
-meter_view Curve = curve_meter
-meter_view Index = index_meter
+abbrev pub meter_view : Option Meter → meant.Meter
+meter_view None = no_meter
+meter_view (Some Curve) = curve_meter
+meter_view (Some Index) = index_meter
 
 abbrev pub site_view : Site → meant.Site
 site_view s = site s.al s.filiere (meter_view s.meter) s.ps
 
 -- from the definitions to the code
-abbrev pub meter_repr : meant.Meter → Meter
-meter_repr no_meter = NoMeter
-meter_repr curve_meter = Curve
-meter_repr index_meter = Index
+abbrev pub meter_repr : meant.Meter → Option Meter
+meter_repr no_meter = None
+meter_repr curve_meter = Some Curve
+meter_repr index_meter = Some Index
 
 abbrev pub site_repr : meant.Site → Site
 site_repr s = record { al = s.al; filiere = s.filiere; meter = meter_repr s.meter; ps = s.ps }

@@ -5,13 +5,14 @@ ghost use Rattle.line_form.specs.Fields.{EachLine};
 ghost use Rattle.line_form.specs.Reads.{where_formed, kind_where, reading_read_of, daily_read_of};
 
 use crate::Fields;
-use crate::parts::{DateRead, byte_of, number_of, read_date};
-use readings::{Kind, is_kind, kind_of};
+use crate::parts::{byte_of, number_of, read_date};
+use calendar::Date;
+use readings::Kind;
 
 // What an X line says.
 #[derive(Clone, Copy)]
 pub struct ReadingRead {
-    pub date: DateRead,
+    pub date: Date,
     pub index: u64,
     pub kind: Kind,
 }
@@ -19,16 +20,16 @@ pub struct ReadingRead {
 // What a D line says.
 #[derive(Clone, Copy)]
 pub struct DailyRead {
-    pub date: DateRead,
+    pub date: Date,
     pub sum: u64,
 }
 
 // The kind of a letter; none where it is none of the three (5).
-#[tactic(auto, unfolding(crate::specs::Reads::kind_where))]
+#[tactic(auto, using(crate::proofs::LetterLaws::kind_known))]
 fn known_kind(letter: u8) -> Option<Kind>
     ensures { result ≡ kind_where (kind_of_letter letter) }
 {
-    is_kind(letter).then_some(kind_of(letter))
+    Kind::try_from(letter).ok()
 }
 
 // The fields of an X line; none where one is not in its form (5).
@@ -37,7 +38,7 @@ pub fn read_reading(fields: Fields) -> Option<ReadingRead>
 {
     let date = read_date(fields)?;
     let index = number_of(fields.fields[4])?;
-    let kind = known_kind(byte_of(fields.fields[5]))?;
+    let kind = known_kind(byte_of(fields.fields[5])?)?;
     Some(ReadingRead { date, index, kind })
 }
 

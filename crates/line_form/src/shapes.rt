@@ -1,30 +1,28 @@
-// The shape of a field.
+// A field from its bytes.
 ghost use Rattle.std.specs.Prelude.{◌≡◌};
-ghost use Rattle.line_form.specs.Shapes.{alone_of, shape_by};
+ghost use Rattle.line_form.specs.Shapes.{alone_of, field_by};
 
-use crate::Shape;
+use crate::Field;
 
-// The shape of a field that is neither a number nor the edition.
+// A field that is neither a number nor the edition.
 #[tactic(auto, using(crate::proofs::Shaped::alone_no, crate::proofs::Shaped::alone_is))]
-fn alone_of(f: &[u8]) -> Shape
+fn alone_of(f: &[u8]) -> Field
     ensures { result ≡ alone_of f.now }
 {
     match f {
-        [b] => Shape::Byte(*b),
-        _ => Shape::Other,
+        [b] => Field::Byte(*b),
+        _ => Field::Other,
     }
 }
 
-// The shape of a field; `formed` says whether it is a number.
-#[tactic(auto, unfolding(crate::specs::Shapes::shape_by))]
-pub(crate) fn shape_of(f: &[u8], formed: bool) -> Shape
-    ensures { result ≡ shape_by formed f.now }
+// A field by its number, which the walk over its bytes has found, so that no byte is read again for it.
+#[tactic(auto, unfolding(crate::specs::Shapes::field_by))]
+pub(crate) fn field_by(f: &[u8], number: Option<u64>) -> Field
+    ensures { result ≡ field_by number f.now }
 {
-    if formed {
-        return Shape::Number;
+    match number {
+        Some(value) => Field::Number(value),
+        None if text::is_edition(f) => Field::Edition,
+        None => alone_of(f),
     }
-    if text::is_edition(f) {
-        return Shape::Edition;
-    }
-    alone_of(f)
 }

@@ -4,15 +4,16 @@ ghost use Rattle.meaning.specs.Line.{S, meter_of_letter};
 ghost use Rattle.meaning.specs.Refusals.{is_too_soon};
 ghost use Rattle.line_form.specs.Shapes.{is_edition};
 ghost use Rattle.line_form.specs.Fields.{EachLine};
-ghost use Rattle.line_form.specs.Reads.{where_formed, meter_where, site_read_of};
+ghost use Rattle.line_form.specs.Views.{meter_repr};
+ghost use Rattle.line_form.specs.Reads.{where_formed, site_read_of};
 
 use crate::parts::{byte_of, number_of};
-use crate::{Field, Fields, Meter, Shape, Site};
+use crate::{Field, Fields, Meter, Site};
 
-// The meter of a letter, T or I; none for any other (5).
-#[tactic(auto, unfolding(meaning::specs::Line::meter_of_letter, crate::specs::Reads::meter_where))]
+// The meter of a letter, T or I; none for any other (5). A function and no TryFrom: its one caller wants an Option.
+#[tactic(auto, unfolding(meaning::specs::Line::meter_of_letter))]
 fn meter_of(letter: u8) -> Option<Meter>
-    ensures { result ≡ meter_where (meter_of_letter letter) }
+    ensures { result ≡ meter_repr (meter_of_letter letter) }
 {
     match letter {
         b'T' => Some(Meter::Curve),
@@ -22,9 +23,9 @@ fn meter_of(letter: u8) -> Option<Meter>
 }
 
 fn is_edition(field: Field) -> bool
-    ensures { result ≡ is_edition field.shape }
+    ensures { result ≡ is_edition field }
 {
-    matches!(field.shape, Shape::Edition)
+    matches!(field, Field::Edition)
 }
 
 // 9: filières 6 to 11 are certified only from AL 2023 on.
@@ -44,12 +45,12 @@ pub fn read_site(fields: Fields) -> Option<Site>
     }
     let al = number_of(fields.fields[2])?;
     let filiere = number_of(fields.fields[3])?;
-    let meter = meter_of(byte_of(fields.fields[4]))?;
+    let meter = meter_of(byte_of(fields.fields[4])?)?;
     let ps = number_of(fields.fields[5])?;
     Some(Site {
         al,
         filiere,
-        meter,
+        meter: Some(meter),
         ps,
     })
 }

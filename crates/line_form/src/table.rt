@@ -2,14 +2,8 @@
 ghost use Rattle.std.specs.Prelude.{◌≡◌};
 ghost use Rattle.line_form.specs.Fields.{fields_of};
 
-use crate::shapes::shape_of;
-use crate::{Field, Fields, Shape};
-
-// The value of a place past the last field.
-const NO_FIELD: Field = Field {
-    shape: Shape::Other,
-    value: 0,
-};
+use crate::shapes::field_by;
+use crate::{Field, Fields};
 
 // The fields of a line, each split off what is left after the one before it; None where the line is illegible (2).
 #[tactic(auto, using(crate::proofs::ReadFields::pass_steps))]
@@ -19,14 +13,12 @@ pub fn read_fields(line: &[u8]) -> Option<Fields>
     if line.is_empty() || 320 < line.len() {
         return None;
     }
-    let mut fields = [NO_FIELD; 24];
+    let mut fields = [Field::Other; 24]; // an array has something at each place, and `count` says where the fields end
     let mut rest = line;
+    // a `for` and no chain: each field starts where the one before it ended, and the pass ends with the line, or at an invalid byte
     for k in 0..24 {
         let n = text::number(rest)?;
-        fields[k] = Field {
-            shape: shape_of(text::field(rest, n.length), n.formed),
-            value: n.value,
-        };
+        fields[k] = field_by(text::field(rest, n.length), n.number);
         if rest.len() <= n.length {
             return Some(Fields {
                 count: k + 1,

@@ -8,6 +8,7 @@ ghost use Rattle.line_form.specs.Tags.{known_tag};
 use crate::parts::byte_of;
 use crate::{Fields, Tag};
 
+// The tag of a letter. A function and no TryFrom: its one caller wants an Option, and would drop what an error holds.
 #[tactic(auto, unfolding(meaning::specs::Line::tag_of_letter))]
 fn tag_of(letter: u8) -> Option<Tag>
     ensures { known_view result ≡ tag_of_letter letter }
@@ -32,7 +33,7 @@ pub fn rank(tag: Tag) -> u64
     tag as u64
 }
 
-// The number of fields of a line of a tag, the tag included.
+// The number of fields of a line of a tag, the tag included: a table of the rules.
 fn field_count(tag: Tag) -> usize
     ensures { result ≡ size (tag_view tag) }
 {
@@ -46,14 +47,9 @@ fn field_count(tag: Tag) -> usize
 }
 
 // The tag of a legible line, none where it is unknown or the line does not have the tag's number of fields (3).
-#[tactic(auto, using(crate::proofs::TagLaws::known, crate::proofs::TagLaws::not_known, crate::proofs::TagLaws::no_letter))]
 pub fn known_tag(fields: Fields) -> Option<Tag>
     ensures { EachLine fields (λ l. known_view result ≡ known_tag l) }
 {
-    let tag = tag_of(byte_of(fields.fields[0]))?;
-    if fields.count == field_count(tag) {
-        Some(tag)
-    } else {
-        None
-    }
+    let tag = tag_of(byte_of(fields.fields[0])?)?;
+    (fields.count == field_count(tag)).then_some(tag)
 }

@@ -1,5 +1,8 @@
 -- C and P: the refusal of a line and what an accepted one says, by the checks of the code in order.
-use Rattle.std.specs.Prelude.{Ok}
+use Rattle.std.specs.Prelude.{Result, Ok}
+use Rattle.std.specs.Bool.{then_some}
+use mathlib.Core.List.{List}
+use mathlib.Core.Option.{Option, none, some}
 use Rattle.refusals.specs.Refusals.{unless_reason}
 use mathlib.Core.Path.{◌≡◌, refl, ap, sym, ◌∙◌}
 use mathlib.Core.Bool.{Bool, true, false, not, ◌||◌}
@@ -14,23 +17,26 @@ use Rattle.calendar.specs.Spans.{among, history_years}
 use Rattle.calendar.specs.Answers.{winter_place_of}
 use Rattle.meaning.specs.Filing.{Meter}
 use Rattle.meaning.specs.Line.{Line, Tag, C, P, S, X, E, is, key_of, year_on, winter_on, has_date_on, is_winter_tag}
-use Rattle.meaning.specs.Refusals.{Before, outside, no_date, holds, refusal, is_outside, has_no_date}
+use Rattle.refusals.specs.declared.Refusal.{Refusal}
+use Rattle.meaning.specs.Refusals.{Before, Reason, outside, no_date, holds, refusal, is_outside, has_no_date}
 use Rattle.line_form.specs.Ranges.{no_date_for}
 use Rattle.line_form.proofs.Capped.{early_history}
 use Rattle.line_form.proofs.Forms.{malformed}
 use Rattle.line_form.proofs.Checks.{no_date_lem}
 use Rattle.line_form.specs.Codes.{point_row, profile_row, is_point_outside, is_profile_outside}
-use Rattle.line_form.specs.Reads.{where_formed, is_formed, date_read_of}
+use Rattle.line_form.specs.Reads.{where_formed, is_formed, date_read_of, points_read_of, profiles_read_of}
+use Rattle.line_form.specs.declared.values.ValuesRead.{ValuesRead}
 use Rattle.line_form.specs.ValueRanges.{is_points_outside, is_profiles_outside}
-use Rattle.line_form.specs.declared.parts.DateRead.{DateRead}
+use Rattle.calendar.specs.declared.Date.{Date}
 use Rattle.line_form.proofs.ValueChecks.{outside_c, outside_p, exact_c, exact_p}
 use Rattle.line_checks.specs.Before.{Known, is_not_later, before_like, before_points, before_rising}
-use Rattle.line_checks.specs.Order.{is_misplaced}
+use Rattle.line_checks.specs.Order.{and_then, in_order, is_misplaced}
 use Rattle.line_checks.proofs.Chain.{Asks, clear, told, told_same, next_dated, after_two, misplaced_other, misplaced_rank, never_soon, never_falling, never_many, no_count}
 use Rattle.line_steps.specs.Places.{points_misplaced}
 use Rattle.line_checks.proofs.Dates.{history_low, key_on, winter_on_lem}
-use Rattle.line_steps.specs.PointAnswers.{date_on, winter_checked}
+use Rattle.line_steps.specs.PointAnswers.{date_on, points_on, profiles_on, winter_checked}
 use Rattle.line_steps.specs.declared.points_and_profiles.checks.DateChecked.{DateChecked}
+use Rattle.line_steps.specs.declared.points_and_profiles.checks.RowChecked.{RowChecked}
 
 -- ---- C and P together: a tag t of winter dates, whether the line is misplaced, and whether some value is outside its range
 pub record Winter (t : Tag) (l : Line) (b : Before) (h : Years) (latest : ℕ) (late above : Bool) : Type 0 where
@@ -89,14 +95,14 @@ module _ (t : Tag) (l : Line) (b : Before) (al f latest : ℕ) (late above : Boo
         count_is = λ _. no_count b l t u c.others.1.1;
       }
 
-  found : DateRead → ℕ → DateChecked
+  found : Date → ℕ → DateChecked
   found d v = record { year = d.year; place = place_or (winter_place_of d.month d.day); key = v }
 
   same_date : is_outside (history_years al f) l ≡ false → has_no_date l ≡ false → date_on t l ≡ found (date_read_of l) (key_for (date_read_of l).year (date_read_of l).month (date_read_of l).day)
   unfolding date_on found
   same_date o d = rw (← c.exact o, ← place_in d, ← key_in o d)
 
-  pub winter_told : unless_reason (refusal b l) (date_on t l) ≡ winter_checked late (where_formed t l (date_read_of l)) above (history_years al f) latest
+  winter_told : unless_reason (refusal b l) (date_on t l) ≡ and_then (in_order late (where_formed t l (date_read_of l))) (λ d. winter_checked (history_years al f) d above latest)
   unfolding holds where_formed winter_checked found
   winter_told =
       let h = history_years al f in
@@ -105,10 +111,31 @@ module _ (t : Tag) (l : Line) (b : Before) (al f latest : ℕ) (late above : Boo
       let out : Bool = not (among h d.year) || above in
       told_same (refusal b l) (date_on t l) (found d v) (λ q. same_date (rw c.history_is at (clear b l q outside)) (clear b l q no_date))
       ∙ told t b l _ (found d v) c.known asks
-      ∙ after_two late (is_formed t l) d _ _ (next_dated out true d latest (λ w. Ok (found d w)) _ refl)
+      ∙ after_two late (is_formed t l) d (λ x. winter_checked h x above latest) _ (next_dated out true d latest (λ w. Ok (found d w)) _ refl)
+
+-- with its values
+row_told : (t : Tag) (l : Line) (b : Before) (al f latest : ℕ) (late : Bool) (p : ℕ → Bool) (cs : List ℕ) → Winter t l b (history_years al f) latest late (any p cs)
+    → unless_reason {A = RowChecked} (refusal b l) (record { date = date_on t l; codes = cs })
+    ≡ and_then (in_order {A = ValuesRead} late (where_formed t l (record { date = date_read_of l; codes = cs })))
+    (λ v. and_then (winter_checked (history_years al f) v.date (any p v.codes) latest) (λ d. Ok (record { date = d; codes = v.codes })))
+unfolding where_formed unless_reason in_order
+row_told t l b al f latest late p cs c = sym (given (refusal b l)) ∙ ap with_row (winter_told t l b al f latest late (any p cs) c) ∙ chained late (is_formed t l)
+  where
+    with_row : Result DateChecked Refusal → Result RowChecked Refusal
+    with_row r = and_then r (λ d. Ok (record { date = d; codes = cs }))
+
+    given : (o : Option Reason) → with_row (unless_reason o (date_on t l)) ≡ unless_reason o (record { date = date_on t l; codes = cs })
+    given none = refl
+    given (some y) = refl
+
+    chained : (m q : Bool) → with_row (and_then (in_order m (then_some q (date_read_of l))) (λ d. winter_checked (history_years al f) d (any p cs) latest))
+        ≡ and_then (in_order {A = ValuesRead} m (then_some q (record { date = date_read_of l; codes = cs }))) (λ v. and_then (winter_checked (history_years al f) v.date (any p v.codes) latest) (λ d. Ok (record { date = d; codes = v.codes })))
+    chained true q = refl
+    chained false true = refl
+    chained false false = refl
 
 -- ---- C
-pub points_winter : (l : Line) (last al f latest : ℕ) (m : Meter) → Known C l
+points_winter : (l : Line) (last al f latest : ℕ) (m : Meter) → Known C l
     → Winter C l (before_points last m (history_years al f) latest) (history_years al f) latest (points_misplaced last m) (any is_point_outside (point_row l))
 unfolding before_points before_like points_misplaced is_points_outside
 points_winter l last al f latest m k =
@@ -126,8 +153,15 @@ points_winter l last al f latest m k =
       others = (refl, (refl, refl));
     }
 
+pub points_told : (l : Line) (last al f latest : ℕ) (m : Meter) → Known C l
+    → unless_reason (refusal (before_points last m (history_years al f) latest) l) (points_on l)
+    ≡ and_then (in_order (points_misplaced last m) (where_formed C l (points_read_of l)))
+    (λ v. and_then (winter_checked (history_years al f) v.date (any is_point_outside v.codes) latest) (λ d. Ok (record { date = d; codes = v.codes })))
+unfolding points_on points_read_of
+points_told l last al f latest m k = row_told C l _ al f latest _ is_point_outside (point_row l) (points_winter l last al f latest m k)
+
 -- ---- P
-pub profiles_winter : (l : Line) (last al f latest : ℕ) → Known P l
+profiles_winter : (l : Line) (last al f latest : ℕ) → Known P l
     → Winter P l (before_rising last (history_years al f) latest) (history_years al f) latest (is_misplaced last P) (any is_profile_outside (profile_row l))
 unfolding before_rising before_like is_profiles_outside
 profiles_winter l last al f latest k =
@@ -144,3 +178,10 @@ profiles_winter l last al f latest k =
       exact = λ o. (exact_p h l e k.tag o).0;
       others = (refl, (refl, refl));
     }
+
+pub profiles_told : (l : Line) (last al f latest : ℕ) → Known P l
+    → unless_reason (refusal (before_rising last (history_years al f) latest) l) (profiles_on l)
+    ≡ and_then (in_order (is_misplaced last P) (where_formed P l (profiles_read_of l)))
+    (λ v. and_then (winter_checked (history_years al f) v.date (any is_profile_outside v.codes) latest) (λ d. Ok (record { date = d; codes = v.codes })))
+unfolding profiles_on profiles_read_of
+profiles_told l last al f latest k = row_told P l _ al f latest _ is_profile_outside (profile_row l) (profiles_winter l last al f latest k)

@@ -1,5 +1,6 @@
 // A line by its tag: refused by one of 4 to 12, or taken into the progress and the lent blocks. For each tag one function checks the line (checks)
-// and one applies it (changes); a refused line changes nothing.
+// and one applies it (changes); a refused line changes nothing. But for S and E, each that applies a line asks for
+// fields of a line of its own tag (`SomeTagged`), since no type of all fields can hold which tag it is.
 #![tactic(auto)]
 
 mod site_and_end; // S and E

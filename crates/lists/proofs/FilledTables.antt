@@ -1,6 +1,6 @@
--- Tables filled from the front, the elements that are left of one, and tables that agree at each place.
+-- Tables: what is left of one from a place on, and one with a place set anew.
 use mathlib.Core.Path.{◌≡◌, refl, ap, sym, ◌∙◌}
-use mathlib.Core.List.{List, [], ◌∷◌}
+use mathlib.Core.List.{[], ◌∷◌}
 use Prim.Native.Nat.{ℕ, suc, ◌+◌, ◌-◌, ◌≤◌, ◌<◌}
 use native.Mathlib.Numerals.{add-one}
 use native.Mathlib.Omega.{arith}
@@ -8,16 +8,9 @@ use mathlib.Core.Bool.{Bool, true, false}
 use lib.Dec.{eqb}
 use borrow.Author.Tests.{eqb-true, eqb-false}
 use lib.ListN.{get_or, set, length-set}
-use lib.Seq.{sets, ext_get_or, get_or-set_same, get_or-set_other}
+use lib.Seq.{ext_get_or, get_or-set_same, get_or-set_other}
 use Rattle.lists.proofs.Laws.{length_tab, get_d_tab0}
 use Rattle.lists.specs.Lists.{tab}
-
--- ---- a counter that goes up to n
-pub nearer : (i n : ℕ) → i < n → n - suc i < n - i
-nearer i n l = omega (arith, l)
-
-pub over : (i n : ℕ) → i ≤ n → n ≤ i → i ≡ n
-over i n a b = omega (arith, a, b)
 
 -- ---- what is left of a table of n places from place i on
 pub tab_on : {A : Type 0} (f : ℕ → A) (i n : ℕ) → i < n → tab (n - i) i f ≡ f i ∷ tab (n - (i + 1)) (i + 1) f
@@ -30,18 +23,6 @@ tab_on {A} f i n h = go (n - (i + 1)) (omega arith)
 pub tab_end : {A : Type 0} (f : ℕ → A) (i n : ℕ) → n ≤ i → tab (n - i) i f ≡ []
 unfolding tab
 tab_end f i n h = let e : n - i ≡ 0 = omega arith in rw e
-
--- ---- a list that is set from the front to a table
-pub set_on : {A : Type 0} (f : ℕ → A) (i n : ℕ) (xs : List A) (v : A) {ys : List A} → i < n → v ≡ f i → sets xs i (tab (n - i) i f) ≡ ys
-    → sets (set xs i v) (i + 1) (tab (n - (i + 1)) (i + 1) f) ≡ ys
-set_on f i n xs v h e s =
-    ap (λ (k : ℕ). sets (set xs i v) k (tab (n - (i + 1)) (i + 1) f)) (add-one i)
-    ∙ ap (λ a. sets (set xs i a) (suc i) (tab (n - (i + 1)) (i + 1) f)) e
-    ∙ sym (ap (sets xs i) (tab_on f i n h))
-    ∙ s
-
-pub set_end : {A : Type 0} (f : ℕ → A) (i n : ℕ) (xs : List A) {ys : List A} → n ≤ i → sets xs i (tab (n - i) i f) ≡ ys → xs ≡ ys
-set_end f i n xs h s = sym (ap (sets xs i) (tab_end f i n h)) ∙ s
 
 -- one place of a table set anew
 pub set_tab : {A : Type 0} (n : ℕ) (f g : ℕ → A) (k : ℕ) (v d : A) → k < n → v ≡ g k → ((j : ℕ) → (j ≡ k → ⊥) → f j ≡ g j) → set (tab n 0 f) k v ≡ tab n 0 g

@@ -6,8 +6,6 @@ pub mod Blocks
 pub mod Snoc
 pub mod Sums
 pub mod Tables
-pub mod Loops
-pub mod Tabs
 pub mod AllAt
 pub mod Ranges
 pub mod FilledTables

@@ -13,7 +13,7 @@ use Rattle.lists.specs.Lists.{any, all, keep, first_of, tab, range, sum, neighbo
 use Rattle.lists.proofs.Laws.{any_some, some_any, paired}
 use Rattle.lists.proofs.Reflect.{of_all}
 use Rattle.lists.proofs.Sums.{each_in, some_in_lem, each_range, in_range_lem}
-use Rattle.lists.proofs.Tests.{same, is_true}
+use Rattle.lists.proofs.Tests.{same}
 
 -- an element within the list is the same whatever the default
 pub get_d_any : {A : Type 0} (xs : List A) (i : ℕ) (d e : A) → i < length xs → get_or xs i d ≡ get_or xs i e
@@ -100,22 +100,6 @@ any_moved p n i =
     (λ t. let s = some_of_range p n i t in range_some (λ k. p (i + k)) n 0 (s.0 - i) (omega arith) (omega (arith, s.1, s.2)) (subst (λ (m : ℕ). T (p m)) (omega (arith, s.1)) s.3))
     (λ t. let s = some_of_range (λ k. p (i + k)) n 0 t in range_some p n i (i + s.0) (omega arith) (omega (arith, s.2)) s.3)
 
--- ---- what a loop from 0 finds
-pub any_found : (p : ℕ → Bool) (n k : ℕ) → k < n → p k ≡ true → true ≡ any p (range 0 n)
-any_found p n k h e = sym (is_true (any p (range 0 n)) (range_some p n 0 k (omega arith) (omega arith) (rw e tt)))
-
-pub any_none : (p : ℕ → Bool) (n : ℕ) → ((k : ℕ) → k < n → p k ≡ false) → false ≡ any p (range 0 n)
-any_none p n f = same false (any p (range 0 n)) (λ t. absurd t) (λ t. let s = some_of_range p n 0 t in rw (f s.0 (omega (arith, s.2))) at s.3)
-
-pub any_none_from : (p : ℕ → Bool) (n i : ℕ) → ((k : ℕ) → k < i + n → i ≤ k → p k ≡ false) → false ≡ any p (range i n)
-any_none_from p n i f = same false (any p (range i n)) (λ t. absurd t) (λ t. let s = some_of_range p n i t in rw (f s.0 s.2 s.1) at s.3)
-
-pub all_found : (p : ℕ → Bool) (n k : ℕ) → k < n → p k ≡ false → false ≡ all p (range 0 n)
-all_found p n k h e = same false (all p (range 0 n)) (λ t. absurd t) (λ t. rw e at (each_of_range p n 0 t k (omega arith) (omega arith)))
-
-pub all_each : (p : ℕ → Bool) (n : ℕ) → ((k : ℕ) → k < n → p k ≡ true) → true ≡ all p (range 0 n)
-all_each p n f = sym (is_true (all p (range 0 n)) (range_each p n 0 (λ k h l. rw (f k (omega arith)) tt)))
-
 -- ---- the first that passes
 abbrev pub through : {A B : Type 0} → (A → B) → Option A → Option B
 through f none = none
@@ -165,12 +149,3 @@ pub sum_same : (n i : ℕ) (f g : ℕ → ℕ) → ((k : ℕ) → i ≤ k → k 
 unfolding sum tab
 sum_same zero i f g h = refl
 sum_same (suc n) i f g h = rw (h i (omega arith) (omega arith), sum_same n (suc i) f g (λ k a b. h k (omega arith) (omega arith)))
-
--- one more at the end
-pub sum_next : (n i : ℕ) (f : ℕ → ℕ) → sum (tab (suc n) i f) ≡ sum (tab n i f) + f (i + n)
-unfolding sum tab
-sum_next zero i f = rw (add-zero i) (omega arith)
-sum_next (suc n) i f = rw (sum_next n (suc i) f) (omega (arith, ap f at_end))
-  where
-    at_end : suc i + n ≡ i + suc n
-    at_end = omega arith

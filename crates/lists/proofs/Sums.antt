@@ -3,7 +3,7 @@ use mathlib.Core.Path.{◌≡◌, refl, ap, sym, subst, ◌∙◌}
 use mathlib.Core.Bool.{Bool, true, false, cond}
 use mathlib.Core.List.{List, [], ◌∷◌, ◌++◌, map}
 use mathlib.Core.Option.{Option, some, none}
-use Prim.Native.Nat.{ℕ, zero, suc, ◌+◌, ◌-◌, ◌≤◌, ◌<◌}
+use Prim.Native.Nat.{ℕ, zero, suc, ◌+◌, ◌-◌, ◌*◌, ◌≤◌, ◌<◌}
 use native.Mathlib.Nat.{add-zero, add-suc, suc-add, le_of_suc-le-suc, not-suc-le-zero}
 use native.Mathlib.Omega.{arith}
 use lib.Dec.{T}
@@ -185,3 +185,19 @@ pub sum_positive : {xs : List ℕ} → Some (λ x. 0 < x) xs → 0 < sum xs
 unfolding sum
 sum_positive (here p) = omega arith
 sum_positive (there r) = omega (arith, sum_positive r)
+
+-- no more pass than there are
+pub count_most : {A : Type 0} (p : A → Bool) (xs : List A) → count p xs ≤ length xs
+unfolding count
+count_most p [] = omega arith
+count_most {A} p (x ∷ xs) = go (p x) (count_most p xs)
+  where
+    go : (b : Bool) → count p xs ≤ length xs → cond b (suc (count p xs)) (count p xs) ≤ suc (length xs)
+    go true h = omega arith
+    go false h = omega arith
+
+-- a sum of numbers that are each at most m
+pub sum_most : {A : Type 0} (f : A → ℕ) (m : ℕ) → ((x : A) → f x ≤ m) → (xs : List A) → sum (map f xs) ≤ m * length xs
+unfolding sum
+sum_most f m h [] = omega arith
+sum_most f m h (x ∷ xs) = omega (arith, h x, sum_most f m h xs)

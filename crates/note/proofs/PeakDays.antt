@@ -7,8 +7,6 @@ use Prim.Native.Nat.{ℕ, ◌+◌, ◌-◌, ◌≤◌, ◌<◌}
 use native.Mathlib.Omega.{arith}
 use lib.Dec.{T, eqb, leb, ltb, eqb→eq, leb→le}
 use lib.ListN.{length, get_or, take, drop}
-use borrow.Author.Tests.{le-leb, lt-leb}
-use Rattle.std.proofs.lemmas.Option.{slice_get-get_or}
 use Rattle.lists.specs.Lists.{all, count, sum, tab, Each, each_nil}
 use Rattle.lists.proofs.Laws.{each_map}
 use Rattle.lists.proofs.Reflect.{of_all, of_and, of_le, of_lt}
@@ -16,8 +14,6 @@ use Rattle.lists.proofs.Tests.{is_true, and_parts}
 use Rattle.calendar.specs.Dates.{leap, month_lengths, longest, days_in, is_date}
 use Rattle.calendar.specs.Places.{before, month_of, day_of, has_date, date_of_winter, has_winter_date}
 use Rattle.note.specs.Peaks.{annex1, day_counts, has_peaks, peak_count, peak_start, peak_days}
-use Rattle.note.specs.Answers.{peak_day}
-use Rattle.std.specs.Prelude.{Some, None}
 use Rattle.note.proofs.Table.{at, every_part, part_at, rising, ascends, each_at}
 
 -- ---- the one test of the whole table, year by year
@@ -55,14 +51,6 @@ peak_years y h = (of_and (leb 2007 y) (leb y 2021) (of_le 2007 y) (of_le y 2021)
 pub peak_year : (y : ℕ) → 2007 ≤ y → y ≤ 2021 → T (has_peaks y)
 unfolding has_peaks
 peak_year y h g = (of_and (leb 2007 y) (leb y 2021) (of_le 2007 y) (of_le y 2021)).1 (h, g)
-
-pub early : (y : ℕ) → y < 2007 → has_peaks y ≡ false
-unfolding has_peaks
-early y h = rw (lt-leb 2007 y h)
-
-pub late : (y : ℕ) → 2021 < y → has_peaks y ≡ false
-unfolding has_peaks
-late y h = rw (le-leb 2007 y (omega arith), lt-leb y 2021 h)
 
 pub count_in : (y : ℕ) → T (has_peaks y) → peak_count y ≡ get_or day_counts (y - 2007) 0
 unfolding peak_count
@@ -173,17 +161,6 @@ start_at i h = eqb→eq (get_or starts i 0) (sum (take i day_counts)) (at is_sta
 pub step_at : (i : ℕ) → i < 15 → get_or starts i 0 + get_or day_counts i 0 ≡ get_or starts (i + 1) 0
 unfolding is_step starts day_counts
 step_at i h = eqb→eq (get_or starts i 0 + get_or day_counts i 0) (get_or starts (i + 1) 0) (at is_step day_counts tt i 0 h)
-
--- ---- the answer for a peak day that the year has
-pub day_is : (y k : ℕ) → k < peak_count y → peak_day y k ≡ Some (get_or (peak_days y) k 0)
-unfolding peak_day
-day_is y k h = slice_get-get_or (peak_days y) k 0 (rw (days_length y) h)
-
-pub place_is : (y k w : ℕ) → k < peak_count y → peak_day y k ≡ Some w → w ≡ get_or (peak_days y) k 0
-place_is y k w h e = cc (day_is y k h)
-
-pub not_nothing : (y k : ℕ) → k < peak_count y → peak_day y k ≡ None → ⊥
-not_nothing y k h e = let z : ◌≡◌ {A = ℕ} 0 1 = cc (day_is y k h) in absurd (omega arith)
 
 -- ---- a year's part of the table, from its start to the next
 pub part_is : (y : ℕ) → 2007 ≤ y → y ≤ 2021 → take (get_or starts (y - 2007 + 1) 0 - get_or starts (y - 2007) 0) (drop (get_or starts (y - 2007) 0) annex1) ≡ peak_days y

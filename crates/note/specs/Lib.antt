@@ -1,3 +1,2 @@
 pub mod Coefficients
 pub mod Peaks
-pub mod Answers

@@ -1,4 +1,7 @@
 // CA, theta and C by filière.
+//
+// Where the note has none they give 7 or 0, as the definitions have it: 1 and 9 have refused such a site before, and with an Option each use would need a case
+// that cannot come.
 ghost use Rattle.std.specs.Prelude.{◌≡◌};
 ghost use Rattle.note.specs.Coefficients.{column_of, ca_of, coefficient_c, theta as Coefficients·theta};
 

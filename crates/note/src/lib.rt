@@ -8,4 +8,4 @@ mod tables; // the tables of coefficients
 mod coefficients; // CA, theta and C of a filière
 
 pub use coefficients::{ca, coefficient, column, theta};
-pub use peaks::{peak_count, peak_day, peak_days};
+pub use peaks::peak_days;

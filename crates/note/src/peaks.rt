@@ -1,7 +1,6 @@
 // Annex 1: the peak days of a year.
 ghost use Rattle.std.specs.Prelude.{◌≡◌};
-ghost use Rattle.note.specs.Peaks.{peak_count, peak_days};
-ghost use Rattle.note.specs.Answers.{peak_day};
+ghost use Rattle.note.specs.Peaks.{peak_days};
 
 use crate::annex1::{PLACES, STARTS};
 
@@ -14,19 +13,4 @@ pub fn peak_days(year: u64) -> &'static [usize]
     }
     let i = (year - 2007) as usize;
     &PLACES[STARTS[i]..STARTS[i + 1]]
-}
-
-// How many peak days the year has.
-pub fn peak_count(year: u64) -> usize
-    ensures { result ≡ peak_count year }
-{
-    peak_days(year).len()
-}
-
-// The winter place of the year's k-th peak day, counted from 0.
-#[tactic(auto, unfolding(crate::specs::Answers::peak_day))]
-pub fn peak_day(year: u64, k: usize) -> Option<usize>
-    ensures { result ≡ peak_day year k }
-{
-    peak_days(year).get(k).copied()
 }

@@ -17,17 +17,16 @@ use Rattle.meaning.specs.Blocks.{Blocks, sizes_fit, points_size, slots_size, dai
 use Rattle.meaning.specs.Record.{is_open, Rec, in_state, rec_fits, before_of, site_fits, is_taken, last_dates_fit, tallies_fit, history_of_rec}
 use Rattle.meaning.specs.Calls.{out, refused, leaves, line_by, line_of}
 use Rattle.readings.specs.declared.Reading.{Reading}
-use Rattle.readings.specs.Readings.{fresh, readings_view}
+use Rattle.readings.specs.Readings.{readings_view}
 use Rattle.readings.specs.Columns.{lent_blocks}
 use Rattle.readings.specs.Lent.{EachLent}
-use Rattle.readings.proofs.Laws.{seen_put, seen_length, put_past}
+use Rattle.readings.proofs.Laws.{seen_put, seen_length}
 use Rattle.refusals.specs.declared.Refusal.{Refusal}
 use Rattle.refusals.specs.declared.Refusal.TheVariants as names
 use Rattle.refusals.specs.declared.Refusal.TheVariants.{Unfit, NotOpen}
 use Rattle.refusals.specs.Refusals.{refusal_number}
 use Rattle.progress.specs.declared.State.{State}
 use Rattle.progress.specs.declared.Progress.{Progress}
-use Rattle.progress.specs.declared.Step.{Step}
 use Rattle.progress.specs.ProgressViews.{state_view, rec_of, open_rec, taken_view, step_view}
 use Rattle.progress.specs.Steps.{line_blocks, LineSizes, step_of, answer_of, out_after}
 use Rattle.progress.proofs.StateLaws.{any_state, open_state_lem}
@@ -87,15 +86,15 @@ taken_is : (s : Rec) (r : std.Option Reading) (v : Blocks) → ((taken_view s r 
 taken_is s std.None v = (refl, refl, refl)
 taken_is s (std.Some r) v = (refl, refl, refl)
 
-blocks_is : (n : ℕ) (p : Progress) (o : Result Step Refusal) (v : Blocks) → (step_view n p o v).blocks ≡ v
+blocks_is : (n : ℕ) (p : Progress) (o : Result (std.Option Reading) Refusal) (v : Blocks) → (step_view n p o v).blocks ≡ v
 blocks_is n p (Err y) v = refl
-blocks_is n p (Ok s) v = (taken_is (open_rec n s.progress) s.reading v).2
+blocks_is n p (Ok r) v = (taken_is (open_rec n p) r v).2
 
-outcome_seen : (n : ℕ) (p : Progress) (o : Result Step Refusal) (k : ℕ) (v w : Blocks)
-    → line_outcome_view (line_outcome_of n p o k) w ≡ out_after (step_view n p o v).number (step_view n p o v).after w
+outcome_seen : (n : ℕ) (p : Progress) (o : Result (std.Option Reading) Refusal) (k : ℕ) (v w : Blocks)
+    → line_outcome_view (line_outcome_of n o k) p w ≡ out_after (step_view n p o v).number (step_view n p o v).after w
 unfolding out_after answer_of in_state
 outcome_seen n p (Err y) k v w = rw (ne_eqb (refusal_number y) 0 (number_above y))
-outcome_seen n p (Ok s) k v w = let t = taken_is (open_rec n s.progress) s.reading v in rw (t.0, t.1)
+outcome_seen n p (Ok r) k v w = let t = taken_is (open_rec n p) r v in rw (t.0, t.1)
 
 -- a reading goes to the next place of the list where the line has one, and else nothing is stored
 stored_reading : (s : Rec) (q : std.Option Reading) (v : Blocks) (rs : List Reading) (k : ℕ)
@@ -104,11 +103,11 @@ stored_reading : (s : Rec) (q : std.Option Reading) (v : Blocks) (rs : List Read
 stored_reading s std.None v rs k = refl
 stored_reading s (std.Some r) v rs k = seen_put rs k r
 
-stored : (n : ℕ) (p : Progress) (o : Result Step Refusal) (v : Blocks) (rs : List Reading) (k : ℕ)
-    → readings_view (with_reading rs (line_outcome_of n p o k).reading)
+stored : (n : ℕ) (p : Progress) (o : Result (std.Option Reading) Refusal) (v : Blocks) (rs : List Reading) (k : ℕ)
+    → readings_view (with_reading rs (line_outcome_of n o k).reading)
     ≡ cond (step_view n p o v).reads (set (readings_view rs) k (reading (step_view n p o v).position (step_view n p o v).index (step_view n p o v).kind)) (readings_view rs)
 stored n p (Err y) v rs k = refl
-stored n p (Ok s) v rs k = stored_reading (open_rec n s.progress) s.reading v rs k
+stored n p (Ok r) v rs k = stored_reading (open_rec n p) r v rs k
 
 module _ (st : State) (n : ℕ) (p : Progress) (l : Line) (near far slots daily : List ℕ) (r m : ℕ) (k : Result (Unit {0}) Refusal)
     (asked : k ≡ open_refusal (lengths_fit (length near) (length far) (length slots) (length daily) r m && rec_fits (rec_of st n p)) (state_view st)) where
@@ -123,8 +122,8 @@ module _ (st : State) (n : ℕ) (p : Progress) (l : Line) (near far slots daily 
   stop_is rs c er ec = asked ∙ ap (λ (b : Bool). open_refusal (b && rec_fits (rec_of st n p)) (state_view st)) (same_fit rs c er ec)
 
   -- ---- 1 and 13
-  pub refused_line : (y : Refusal) → k ≡ Err y → (h : LineOutcome) → h ≡ refused_of st n p (refusal_number y)
-      → EachLent r m (λ rs c. line_outcome_view h (lent_blocks near far slots daily (readings_view (with_reading rs h.reading)) c) ≡ line_of (rec_of st n p) l (lent_blocks near far slots daily (readings_view rs) c))
+  pub refused_line : (y : Refusal) → k ≡ Err y → (h : LineOutcome) → h ≡ refused_of st n (refusal_number y)
+      → EachLent r m (λ rs c. line_outcome_view h p (lent_blocks near far slots daily (readings_view (with_reading rs h.reading)) c) ≡ line_of (rec_of st n p) l (lent_blocks near far slots daily (readings_view rs) c))
   refused_line y z h e rs c er ec =
       rw e (early_out (rec_of st n p) l (lent_blocks near far slots daily (readings_view rs) c) y (sym z ∙ stop_is rs c er ec))
 
@@ -154,17 +153,18 @@ module _ (st : State) (n : ℕ) (p : Progress) (l : Line) (near far slots daily 
           daily = eqb→eq (length daily) daily_size t.3;
         }
 
-    module _ (o : Result Step Refusal) (near' far' slots' daily' : List ℕ) (step : step_view n p o (line_blocks near' far' slots' daily') ≡ step_of (open_rec n p) l (line_blocks near far slots daily)) where
-      as_came : step_view n p o (line_blocks near' far' slots' daily') ≡ step_of (rec_of st n p) l (line_blocks near far slots daily)
+    -- the progress after the line is p'
+    module _ (p' : Progress) (o : Result (std.Option Reading) Refusal) (near' far' slots' daily' : List ℕ) (step : step_view n p' o (line_blocks near' far' slots' daily') ≡ step_of (open_rec n p) l (line_blocks near far slots daily)) where
+      as_came : step_view n p' o (line_blocks near' far' slots' daily') ≡ step_of (rec_of st n p) l (line_blocks near far slots daily)
       as_came = rw (open_state_lem st passes.1) step
 
-      pub outcome_line : (h : LineOutcome) → h ≡ line_outcome_of n p o p.readings
-          → EachLent r m (λ rs c. line_outcome_view h (lent_blocks near' far' slots' daily' (readings_view (with_reading rs h.reading)) c) ≡ line_of (rec_of st n p) l (lent_blocks near far slots daily (readings_view rs) c))
+      pub outcome_line : (h : LineOutcome) → h ≡ line_outcome_of n o p.readings
+          → EachLent r m (λ rs c. line_outcome_view h p' (lent_blocks near' far' slots' daily' (readings_view (with_reading rs h.reading)) c) ≡ line_of (rec_of st n p) l (lent_blocks near far slots daily (readings_view rs) c))
       unfolding line_of
       outcome_line h e rs c er ec =
           let w = lent_blocks near far slots daily (readings_view rs) c in
           let v' = line_blocks near' far' slots' daily' in
-          let v = step_view n p o v' in
+          let v = step_view n p' o v' in
           let fit = ap (λ (b : Bool). b && rec_fits (rec_of st n p)) (sym (same_fit rs c er ec)) ∙ passes.0 in
-          rw (e, fit, passes.1, stored n p o v' rs p.readings)
-          (outcome_seen n p o p.readings v' _ ∙ (rw (blocks_is n p o v') at (line_out (rec_of st n p) l w v as_came _ refl)))
+          rw (e, fit, passes.1, stored n p' o v' rs p.readings)
+          (outcome_seen n p' o p.readings v' _ ∙ (rw (blocks_is n p' o v') at (line_out (rec_of st n p) l w v as_came _ refl)))

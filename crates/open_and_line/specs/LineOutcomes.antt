@@ -9,16 +9,15 @@ use Rattle.progress.specs.declared.State.{State}
 use Rattle.progress.specs.declared.State.TheVariants as states
 use Rattle.progress.specs.declared.State.TheVariants.{Open}
 use Rattle.progress.specs.declared.Progress.{Progress}
-use Rattle.progress.specs.declared.Step.{Step}
 use Rattle.progress.specs.ProgressViews.{rec_of}
 use Rattle.answers.specs.declared.Answer.TheVariants.{Accepted, Refused}
 use Rattle.answers.specs.Views.{answer_view}
 use Rattle.open_and_line.specs.declared.line_call.outcome.LineOutcome.{LineOutcome}
 use Rattle.open_and_line.specs.declared.line_call.outcome.PlacedReading.{PlacedReading}
 
--- with the lent lists as the line leaves them
-abbrev pub line_outcome_view : LineOutcome → Blocks → Out
-line_outcome_view r w = out (answer_view r.answer) (rec_of r.state r.count r.progress) w
+-- with the lent progress and the lent lists as the line leaves them
+abbrev pub line_outcome_view : LineOutcome → Progress → Blocks → Out
+line_outcome_view r p w = out (answer_view r.answer) (rec_of r.state r.count p) w
 
 -- the list with the reading of a line stored, if it has one
 abbrev pub with_reading : List Reading → Option PlacedReading → List Reading
@@ -26,8 +25,8 @@ with_reading rs None = rs
 with_reading rs (Some r) = set rs r.place r.reading
 
 -- a refusal, by its number, the state and the count after it
-abbrev pub refused_of : State → ℕ → Progress → ℕ → LineOutcome
-refused_of st n p k = record { reading = None; answer = Refused k n; state = st; count = n; progress = p }
+abbrev pub refused_of : State → ℕ → ℕ → LineOutcome
+refused_of st n k = record { reading = None; answer = Refused k n; state = st; count = n }
 
 -- a reading goes to place n
 abbrev pub placed_at : ℕ → Option Reading → Option PlacedReading
@@ -35,10 +34,10 @@ placed_at n None = None
 placed_at n (Some r) = Some (record { place = n; reading = r })
 
 -- an accepted line, the count-th
-abbrev pub accepted_of : ℕ → Step → ℕ → LineOutcome
-accepted_of count s n = record { reading = placed_at n s.reading; answer = Accepted; state = Open; count = count; progress = s.progress }
+abbrev pub accepted_of : ℕ → Option Reading → ℕ → LineOutcome
+accepted_of count r n = record { reading = placed_at n r; answer = Accepted; state = Open; count = count }
 
 -- a line on an open record: refused or taken, and counted
-abbrev pub line_outcome_of : ℕ → Progress → Result Step Refusal → ℕ → LineOutcome
-line_outcome_of taken p (Err y) n = refused_of states.Refused (taken + 1) p (refusal_number y)
-line_outcome_of taken p (Ok s) n = accepted_of (taken + 1) s n
+abbrev pub line_outcome_of : ℕ → Result (Option Reading) Refusal → ℕ → LineOutcome
+line_outcome_of lines (Err y) n = refused_of states.Refused (lines + 1) (refusal_number y)
+line_outcome_of lines (Ok r) n = accepted_of (lines + 1) r n

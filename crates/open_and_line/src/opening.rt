@@ -1,13 +1,15 @@
 // Opening, on the lent blocks: all fresh where each has its size, else as they were.
 ghost use Rattle.readings.specs.Lent.{EachList};
-ghost use Rattle.readings.specs.Readings.{readings_view, freshened};
+ghost use Rattle.readings.specs.Readings.{readings_view};
 ghost use Rattle.readings.specs.Columns.{lent_blocks};
-ghost use Rattle.open_and_line.specs.Opens.{Opens};
+ghost use Rattle.open_and_line.specs.Opens.{Opens, readings_after};
 
 use answers::Lengths;
 use blocks::{NO_ENTRY, NO_POINT};
+use refusals::Refusal;
 
-// Makes the blocks fresh where all have their sizes, and returns whether they do. The readings are given by their number; the caller resets them.
+// Makes the blocks fresh where all have their sizes, else 1. The readings are given by their number; the caller resets them.
+// Document 01 has the lent blocks as further parameters.
 pub fn open_blocks(
     near: &mut [u32],
     far: &mut [u32],
@@ -15,8 +17,8 @@ pub fn open_blocks(
     daily: &mut [u32],
     readings: usize,
     curve: &mut [u64],
-) -> bool
-    ensures { EachList readings (λ rs. Opens result (lent_blocks near.old far.old slots.old daily.old (readings_view rs) curve.old) (lent_blocks near.new far.new slots.new daily.new (readings_view (freshened result rs)) curve.new)) }
+) -> Result<(), Refusal>
+    ensures { EachList readings (λ rs. Opens result (lent_blocks near.old far.old slots.old daily.old (readings_view rs) curve.old) (lent_blocks near.new far.new slots.new daily.new (readings_view (readings_after result rs)) curve.new)) }
 {
     let lengths = Lengths {
         near: near.len(),
@@ -27,12 +29,12 @@ pub fn open_blocks(
         curve: curve.len(),
     };
     if !lengths.fit() {
-        return false;
+        return Err(Refusal::Unfit);
     }
     near.fill(NO_POINT);
     far.fill(NO_POINT);
     slots.fill(0);
     daily.fill(0);
     curve.fill(NO_ENTRY);
-    true
+    Ok(())
 }

@@ -9,45 +9,36 @@ use pieces::{is_final, next_line};
 use readings::Reading;
 use record_calls::CallResult;
 
-// What the last call returned, with the readings, and the bytes of the piece that are left pending: none once there is a final answer.
+// What the last call returned, and the bytes of the piece that are left pending: none once there is a final answer.
 #[derive(Clone, Copy)]
 pub struct AppliedLines<'a> {
     pub call: CallResult,
-    pub readings: [Reading; 600],
     pub rest: &'a [u8],
 }
 
 // Applies the whole lines of a piece after a call, up to a final answer.
-pub fn apply_lines_own<'a>(
+pub fn apply_lines<'a>(
     mut call: CallResult,
     piece: &'a [u8],
     near: &mut [u32],
     far: &mut [u32],
     slots: &mut [u16],
     daily: &mut [u32],
-    mut readings: [Reading; 600],
+    readings: &mut [Reading],
     curve: &[u64],
 ) -> AppliedLines<'a>
-    ensures { run_of (call_view result.call (lent_blocks near.new far.new slots.new daily.new (readings_view result.readings) curve.now)) result.rest.now ≡ fed (run_of (call_view call (lent_blocks near.old far.old slots.old daily.old (readings_view readings) curve.now)) []) piece.now }
+    ensures { run_of (call_view result.call (lent_blocks near.new far.new slots.new daily.new (readings_view readings.new) curve.now)) result.rest.now ≡ fed (run_of (call_view call (lent_blocks near.old far.old slots.old daily.old (readings_view readings.old) curve.now)) []) piece.now }
 {
-    let mut at = 0;
+    let mut rest = piece;
     // a `while`, since how many lines the piece has shows only as they are found
     'lines: while !is_final(call.answer) {
-        let Some(next) = next_line(piece, at) else {
-            return AppliedLines {
-                call,
-                readings,
-                rest: &piece[at..],
-            };
+        let Some(next) = next_line(rest) else {
+            return AppliedLines { call, rest };
         };
         call = call
             .record
-            .line(next.line, near, far, slots, daily, &mut readings, curve);
-        at = next.past;
+            .line(next.line, near, far, slots, daily, readings, curve);
+        rest = next.rest;
     }
-    AppliedLines {
-        call,
-        readings,
-        rest: &[],
-    }
+    AppliedLines { call, rest: &[] }
 }

@@ -8,5 +8,5 @@ use answers::Answer;
 pub fn is_final(answer: Answer) -> bool
     ensures { result ≡ is_final (answer_view answer) }
 {
-    !matches!(answer, Answer::Accepted)
+    answer != Answer::Accepted
 }

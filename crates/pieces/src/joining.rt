@@ -6,7 +6,8 @@ use crate::line_ends::{ROOM, end};
 use text::put_text;
 
 // The bytes of a line whose end has not come: the first ones of `line`, as many as are held, and of more than 320 the first 320.
-// An array with its length, since memory is fixed and there is no heap.
+// An array with its length, since memory is fixed and there is no heap; the kit's vector of fixed capacity is not `Copy`, which a run is,
+// and its string takes UTF-8 alone.
 #[derive(Clone, Copy)]
 pub struct Pending {
     pub line: [u8; 321],
@@ -16,7 +17,8 @@ pub struct Pending {
 // The pending line with the bytes that a piece adds to it.
 #[derive(Clone, Copy)]
 pub enum Joined {
-    // whole, and so to be applied: its first bytes, and how many of the piece's are used up, its byte 10 included
+    // whole, and so to be applied: its bytes in an array, as `Pending` holds them and for the same reason, how many they are, and how many of the
+    // piece's are used up, its byte 10 included
     Whole {
         line: [u8; 321],
         bytes: usize,

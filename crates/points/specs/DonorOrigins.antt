@@ -3,6 +3,8 @@ use Rattle.std.specs.Prelude.{Bool, false, cond, List, ℕ, ◌+◌, get_or}
 use Rattle.std.proofs.Math.Option.{Option, some, none}
 use Rattle.lists.specs.Lists.{tab, present}
 use Rattle.meaning.specs.Points.{Origin, Donor}
+use Rattle.history.specs.declared.YearOnDay.{YearOnDay}
+use Rattle.history.specs.Years.{no_year}
 use Rattle.points.specs.OwnPoints.{read_in, profiled_on}
 
 -- k is a year's number from the oldest history year, w a winter place, h a half-hour
@@ -16,8 +18,8 @@ unfoldable pub curve_origin : ℕ → ℕ → List ℕ → List ℕ → List Boo
 curve_origin al first near far curves w h k = cond (get_or curves k false) (read_in al near far (first + k) w h) none
 
 -- the profiled point of a valid index year, where the year has the date
-unfoldable pub index_origin : List ℕ → List ℕ → List ℕ → List Bool → ℕ → ℕ → ℕ → Option Origin
-index_origin slots energies totals isDonor w h k = cond (get_or isDonor k false) (some (profiled_on slots energies totals k w h)) none
+unfoldable pub index_origin : List ℕ → List YearOnDay → ℕ → ℕ → ℕ → Option Origin
+index_origin slots years w h k = cond (get_or years k no_year).is_donor (some (profiled_on slots years k w h)) none
 
 -- the donors among n years, each of which gives a point or none
 unfoldable pub donors_among : ℕ → List ℕ → (ℕ → Option Origin) → List Donor

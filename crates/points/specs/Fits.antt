@@ -6,7 +6,8 @@ use Rattle.points.specs.Sources.{Day}
 -- for a point's code, a list's numbers, and a site's factors and CA
 use Rattle.points.specs.OwnFits.{PointsFit}
 use Rattle.points.specs.DonorFits.{CasFit}
-use Rattle.history.specs.Fits.{AtMost}
+use Rattle.history.specs.declared.YearOnDay.{YearOnDay}
+use Rattle.history.specs.Years.{no_year}
 
 -- a rate: none (0), or 10 to 1000 thousandths
 pub record RateFits (r : ℕ) : Type 0 where
@@ -16,9 +17,13 @@ pub record RateFits (r : ℕ) : Type 0 where
 abbrev pub RatesFit : List ℕ → Type 0
 RatesFit rates = (k : ℕ) → RateFits (get_or rates k 0)
 
+-- E and daily total of the interval around a day
+pub record YearFits (y : YearOnDay) : Type 0 where
+  pub energy : y.energy ≤ 1000000000000
+  pub total : y.total ≤ 13815826560
+
 pub record DayFits (b : SiteFactors) (d : Day) : Type 0 where
   pub points : PointsFit b.al d.near d.far
   pub slots : length d.slots ≡ slots_size
-  pub energies : AtMost 1000000000000 d.energies
-  pub totals : AtMost 13815826560 d.totals
+  pub years : (k : ℕ) → YearFits (get_or d.years k no_year)
   pub cas : CasFit b.count d.cas

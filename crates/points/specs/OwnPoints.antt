@@ -4,6 +4,8 @@ use Rattle.std.proofs.Math.Option.{Option}
 use Rattle.meaning.specs.Points.{Origin, by_profile, read_by}
 use Rattle.meaning.specs.Blocks.{missing_point, row_size, slot_at, point_of_code}
 use Rattle.blocks.specs.Rows.{row_of}
+use Rattle.history.specs.declared.YearOnDay.{YearOnDay}
+use Rattle.history.specs.Years.{no_year}
 
 -- ---- look-ups: y is a year, k its number from the oldest history year, w a winter place, h a half-hour
 -- the code of a point, from the year's row
@@ -17,5 +19,6 @@ read_in al near far y w h = read_by (point_of_code (code_in al near far y w h))
 unfoldable pub profile_in : List ℕ → ℕ → ℕ → ℕ → ℕ
 profile_in slots k w h = get_or slots (row_size * k + slot_at w h) 0
 
-unfoldable pub profiled_on : List ℕ → List ℕ → List ℕ → ℕ → ℕ → ℕ → Origin
-profiled_on slots energies totals k w h = by_profile (get_or energies k 0) (profile_in slots k w h) (get_or totals k 0)
+-- the profiled point, from what was looked up of each year for the day
+unfoldable pub profiled_on : List ℕ → List YearOnDay → ℕ → ℕ → ℕ → Origin
+profiled_on slots years k w h = by_profile (get_or years k no_year).energy (profile_in slots k w h) (get_or years k no_year).total

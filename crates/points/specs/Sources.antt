@@ -5,34 +5,27 @@ use Rattle.meaning.specs.Points.{Donor, Source, own, from_default, own_of, rebui
 use Rattle.points.specs.declared.own.SiteFactors.{SiteFactors}
 use Rattle.points.specs.OwnPoints.{read_in, profile_in, profiled_on}
 use Rattle.points.specs.DonorOrigins.{curve_origin, index_origin, donors_among}
-use Rattle.history.specs.declared.DayData.{DayData as YearsOnDay}
+use Rattle.history.specs.declared.YearOnDay.{YearOnDay}
 
 -- ---- what the points of a day are computed from
 pub record Day : Type 0 where
   pub near : List ℕ
   pub far : List ℕ
   pub slots : List ℕ
-  -- by history year: E and the daily total of the interval around the day, and whether the year is an index donor
-  pub energies : List ℕ
-  pub totals : List ℕ
-  pub is_donor : List Bool
-  -- by history year: valid curves, and CA
+  -- by history year: what was looked up for the day, valid curves, and CA
+  pub years : List YearOnDay
   pub curves : List Bool
   pub cas : List ℕ
 
-abbrev pub day : List ℕ → List ℕ → List ℕ → List ℕ → List ℕ → List Bool → List Bool → List ℕ → Day
-day n f s e t g v c = record { near = n; far = f; slots = s; energies = e; totals = t; is_donor = g; curves = v; cas = c }
-
--- from what was looked up for the day
-abbrev pub day_with : List ℕ → List ℕ → List ℕ → YearsOnDay → List Bool → List ℕ → Day
-day_with n f s on v c = day n f s on.energies on.totals on.is_donor v c
+abbrev pub day : List ℕ → List ℕ → List ℕ → List YearOnDay → List Bool → List ℕ → Day
+day n f s ys v c = record { near = n; far = f; slots = s; years = ys; curves = v; cas = c }
 
 -- ---- donors
 unfoldable pub curve_donors_in : SiteFactors → Day → ℕ → ℕ → List Donor
 curve_donors_in b d w h = donors_among b.count d.cas (curve_origin b.al b.first d.near d.far d.curves w h)
 
 unfoldable pub index_donors_in : SiteFactors → Day → ℕ → ℕ → List Donor
-index_donors_in b d w h = donors_among b.count d.cas (index_origin d.slots d.energies d.totals d.is_donor w h)
+index_donors_in b d w h = donors_among b.count d.cas (index_origin d.slots d.years w h)
 
 -- ---- the source of a point, by the year's case
 unfoldable pub default_in : SiteFactors → Day → ℕ → ℕ → ℕ → Source
@@ -40,10 +33,10 @@ default_in b d k w h = from_default b.ps b.theta (profile_in d.slots k w h) (get
 
 unfoldable pub source_in : SiteFactors → Day → Case → ℕ → ℕ → ℕ → Source
 source_in b d case_m k w h = own_of (read_in b.al d.near d.far (b.first + k) w h)
-source_in b d case1 k w h = own (profiled_on d.slots d.energies d.totals k w h)
+source_in b d case1 k w h = own (profiled_on d.slots d.years k w h)
 source_in b d case2 k w h = rebuilt_by (get_or d.cas k 0) (curve_donors_in b d w h)
 source_in b d case3 k w h = rebuilt_by (get_or d.cas k 0) (index_donors_in b d w h)
 source_in b d case4 k w h = default_in b d k w h
-source_in b d case_p k w h = own (profiled_on d.slots d.energies d.totals k w h)
+source_in b d case_p k w h = own (profiled_on d.slots d.years k w h)
 source_in b d case5 k w h = rebuilt_by (get_or d.cas k 0) (index_donors_in b d w h)
 source_in b d case6 k w h = default_in b d k w h

@@ -1,50 +1,68 @@
 // A winter day of the history years: its place, the lent blocks, and what its points need of each year.
 ghost use Rattle.std.specs.Prelude.{◌≡◌, ◌<◌};
-ghost use Rattle.points.specs.OwnPoints.{code_in, profile_in};
-ghost use Rattle.points.specs.OwnFits.{SiteFactorsFit, ProfileIs};
-ghost use Rattle.points.specs.Sources.{day_with};
+ghost use Rattle.meaning.specs.Points.{own};
+ghost use Rattle.points.specs.OwnPoints.{code_in, profile_in, profiled_on};
+ghost use Rattle.points.specs.OwnFits.{SiteFactorsFit, PlacePointIs, ProfileIs};
+ghost use Rattle.points.specs.Sources.{day};
 ghost use Rattle.points.specs.Fits.{DayFits};
 
-use crate::own::SiteFactors;
-use blocks::{HALF_HOURS, NO_POINT, ROW, row};
-use history::DayData;
+use crate::own::{SiteFactors, profiled};
+use blocks::{HALF_HOURS, NO_POINT, ROW, ReadBlocks, row};
+use history::YearOnDay;
+use rounding::{Exceeds, Power};
 
-// By history year: E, daily total and index donor, looked up once for the day; valid curves and CA. All is lent, so no half-hour copies an array.
+// By history year: what it needs of the day, looked up once; valid curves and CA. All is lent, so no half-hour copies an array.
 // The site and its lists are as 1 and 14 to 17 leave them.
 #[derive(Clone, Copy)]
 pub struct WinterDay<'a> {
     pub site: &'a SiteFactors,
     pub w: usize,
-    pub near: &'a [u32],
-    pub far: &'a [u32],
-    pub slots: &'a [u16],
-    pub years: &'a DayData,
+    pub blocks: &'a ReadBlocks<'a>,
+    pub years: &'a [YearOnDay; 10],
     pub curves: &'a [bool; 10],
     pub cas: &'a [u64; 10],
     ghost in_winter: { w < 152 },
     ghost site_fits: { SiteFactorsFit site.now },
-    ghost fits: { DayFits site.now (day_with near.now far.now slots.now years.now curves.now cas.now) },
+    ghost fits: { DayFits site.now (day blocks.now.near.now blocks.now.far.now blocks.now.slots.now years.now curves.now cas.now) },
 }
 
-impl WinterDay<'_> {
+// A half-hour of a winter day.
+#[derive(Clone, Copy)]
+pub(crate) struct HalfHour<'a> {
+    pub day: &'a WinterDay<'a>,
+    pub h: usize,
+    ghost in_day: { h < 20 },
+}
+
+impl HalfHour<'_> {
     // The code of a year's point, from its row.
-    pub(crate) fn code(&self, year: u64, h: usize) -> u32
-        requires { h < 20 }
-        ensures { result ≡ code_in self.now.site.now.al self.now.near.now self.now.far.now year self.now.w h }
+    pub(crate) fn code(self, year: u64) -> u32
+        ensures { result ≡ code_in self.entry.day.now.site.now.al self.entry.day.now.blocks.now.near.now self.entry.day.now.blocks.now.far.now year self.entry.day.now.w self.entry.h }
     {
-        let points = row(self.near, self.far, self.site.al, year);
+        let day = self.day;
+        let points = row(day.blocks.near, day.blocks.far, day.site.al, year);
         points
-            .get(HALF_HOURS * self.w + h)
+            .get(HALF_HOURS * day.w + self.h)
             .copied()
             .unwrap_or(NO_POINT)
     }
 
-    // The profile value of a year's half-hour.
-    pub(crate) fn profile(&self, k: usize, h: usize) -> u64
-        requires { (k < 10) × (h < 20) }
-        ensures { ProfileIs (profile_in self.now.slots.now k self.now.w h) result }
+    // A year's profile value.
+    pub(crate) fn profile(self, k: usize) -> u64
+        requires { k < 10 }
+        ensures { ProfileIs (profile_in self.entry.day.now.blocks.now.slots.now k self.entry.day.now.w self.entry.h) result }
     {
-        let value = self.slots[ROW * k + (HALF_HOURS * self.w + h)];
+        let value = self.day.blocks.slots[ROW * k + (HALF_HOURS * self.day.w + self.h)];
         u64::from(value)
+    }
+
+    // A year's point, profiled from the interval around the day.
+    #[tactic(auto, unfolding(crate::specs::OwnPoints::profiled_on))]
+    pub(crate) fn profiled(self, k: usize) -> Result<Option<Power>, Exceeds>
+        requires { k < 10 }
+        ensures { PlacePointIs (own (profiled_on self.entry.day.now.blocks.now.slots.now self.entry.day.now.years.now k self.entry.day.now.w self.entry.h)) result }
+    {
+        let year = &self.day.years[k];
+        profiled(year.energy, self.profile(k), year.total)
     }
 }

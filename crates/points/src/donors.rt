@@ -8,8 +8,8 @@ ghost use Rattle.points.specs.DonorOrigins.{curve_origin, index_origin, donors_a
 ghost use Rattle.points.specs.Sums.{donors_of, with_donor, rebuilt_from};
 ghost use Rattle.points.specs.DonorFits.{CasFit, SumsFit, DonorsFit};
 
-use crate::days::WinterDay;
-use crate::own::{measured, profiled};
+use crate::days::HalfHour;
+use crate::own::measured;
 use rounding::{Exceeds, Power};
 
 // The sum of the donors' points in mW and that of their CA.
@@ -48,33 +48,32 @@ impl DonorSums {
     }
 }
 
-// Case 2: the point of a year with a valid curve, missing for any other year.
-pub(crate) fn curve_donor(day: &WinterDay<'_>, k: usize, h: usize) -> Option<Power>
-    requires { (k < 10) × (h < 20) }
-    ensures { PlacePointIs (own_of (curve_origin day.now.site.now.al day.now.site.now.first day.now.near.now day.now.far.now day.now.curves.now day.now.w h k)) (Ok result) }
-{
-    if !day.curves[k] {
-        return None;
+impl HalfHour<'_> {
+    // Case 2: the point of a year with a valid curve, missing for any other year.
+    pub(crate) fn curve_donor(self, k: usize) -> Option<Power>
+        requires { k < 10 }
+        ensures { PlacePointIs (own_of (curve_origin self.entry.day.now.site.now.al self.entry.day.now.site.now.first self.entry.day.now.blocks.now.near.now self.entry.day.now.blocks.now.far.now self.entry.day.now.curves.now self.entry.day.now.w self.entry.h k)) (Ok result) }
+    {
+        if !self.day.curves[k] {
+            return None;
+        }
+        measured(self.code(self.day.site.first + k as u64))
     }
-    measured(day.code(day.site.first + k as u64, h))
+
+    // Cases 3 and 5: the profiled point of an index donor, missing for any other year.
+    pub(crate) fn index_donor(self, k: usize) -> Result<Option<Power>, Exceeds>
+        requires { k < 10 }
+        ensures { PlacePointIs (own_of (index_origin self.entry.day.now.blocks.now.slots.now self.entry.day.now.years.now self.entry.day.now.w self.entry.h k)) result }
+    {
+        if !self.day.years[k].is_donor {
+            return Ok(None);
+        }
+        self.profiled(k)
+    }
 }
 
-// Cases 3 and 5: the profiled point of an index donor, missing for any other year.
-pub(crate) fn index_donor(day: &WinterDay<'_>, k: usize, h: usize) -> Result<Option<Power>, Exceeds>
-    requires { (k < 10) × (h < 20) }
-    ensures { PlacePointIs (own_of (index_origin day.now.slots.now day.now.years.now.energies day.now.years.now.totals day.now.years.now.is_donor day.now.w h k)) result }
-{
-    if !day.years.is_donor[k] {
-        return Ok(None);
-    }
-    profiled(
-        day.years.energies[k],
-        day.profile(k, h),
-        day.years.totals[k],
-    )
-}
-
-// The sums over n history years, from the point that each gives as a donor, or refusal 18 for a donor's own point.
+// The sums over n history years, from the point that each gives as a donor, or refusal 18 for a donor's own point. At most ten: their sums then fit.
+// A `for` with `?`: a `try_fold` would have the loop's bounds again as clauses of its closure.
 fn donor_sums<F: Fn(usize) -> Result<Option<Power>, Exceeds>>(
     n: usize,
     cas: &[u64; 10],

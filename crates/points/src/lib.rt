@@ -13,8 +13,9 @@ ghost use Rattle.history.specs.Cases.{case_view};
 ghost use Rattle.points.specs.Sources.{source_in};
 ghost use Rattle.points.specs.Days.{day_view};
 
-use crate::donors::{curve_donor, index_donor, rebuilt_point};
-use crate::own::{by_default, measured, profiled};
+use crate::days::HalfHour;
+use crate::donors::rebuilt_point;
+use crate::own::{by_default, measured};
 pub use days::WinterDay;
 use history::Case;
 pub use own::SiteFactors;
@@ -33,17 +34,14 @@ pub fn point_of(day: &WinterDay<'_>, target: TargetYear, h: usize) -> Result<Opt
     requires { (target.k < day.now.site.now.count) × (h < 20) }
     ensures { PlacePointIs (source_in day.now.site.now (day_view day.now) (case_view target.case) target.k day.now.w h) result }
 {
+    let at = HalfHour { day, h };
     let k = target.k;
     let n = day.site.count as usize;
     match target.case {
-        Case::M => Ok(measured(day.code(day.site.first + k as u64, h))),
-        Case::T1 | Case::P => profiled(
-            day.years.energies[k],
-            day.profile(k, h),
-            day.years.totals[k],
-        ),
-        Case::T2 => rebuilt_point(k, n, day.cas, |j| Ok(curve_donor(day, j, h))),
-        Case::T3 | Case::I5 => rebuilt_point(k, n, day.cas, |j| index_donor(day, j, h)),
-        Case::T4 | Case::I6 => by_default(day.site, day.profile(k, h), day.cas[k]),
+        Case::M => Ok(measured(at.code(day.site.first + k as u64))),
+        Case::T1 | Case::P => at.profiled(k),
+        Case::T2 => rebuilt_point(k, n, day.cas, |j| Ok(at.curve_donor(j))),
+        Case::T3 | Case::I5 => rebuilt_point(k, n, day.cas, |j| at.index_donor(j)),
+        Case::T4 | Case::I6 => by_default(day.site, at.profile(k), day.cas[k]),
     }
 }

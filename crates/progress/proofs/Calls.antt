@@ -1,10 +1,9 @@
 -- A step and the line's call: where the reading is stored, and that the call is the step with the reading stored and the line counted.
-use mathlib.Core.Path.{◌≡◌, refl, sym}
+use mathlib.Core.Path.{◌≡◌, refl}
 use mathlib.Core.Bool.{Bool, true, false, cond}
 use mathlib.Core.List.{List}
 use mathlib.Core.Option.{Option, some, none}
-use Prim.Native.Nat.{ℕ, ◌<◌}
-use native.Mathlib.Omega.{arith}
+use Prim.Native.Nat.{ℕ}
 use lib.ListN.{set}
 use borrow.Author.Tests.{ne_eqb}
 use Rattle.readings.specs.Columns.{lent_blocks}
@@ -15,10 +14,8 @@ use Rattle.meaning.specs.Refusals.{Reason, number_of, refusal}
 use Rattle.meaning.specs.Blocks.{Blocks}
 use Rattle.meaning.specs.Record.{Rec, in_state, axis_of_rec, before_of}
 use Rattle.meaning.specs.Calls.{line_by, position_on, reading_at, rec_after, blocks_after}
-use Rattle.meaning.proofs.Accepted.{is_tag}
 use Rattle.line_checks.proofs.Chain.{number_above}
 use Rattle.progress.specs.Steps.{Stepped, line_blocks, stores_after, step_by, step_of, answer_of, out_after}
-use Rattle.progress.proofs.DatedLines.{reading_place}
 
 -- only an X line gives a reading, and only an X line stores one
 stored_same : (b : Bool) (rs : List Reading) (k p x : ℕ) (kind : Kind)

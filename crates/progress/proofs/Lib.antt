@@ -5,6 +5,5 @@ pub mod Codes
 pub mod DatedLines
 pub mod Calls
 pub mod Spans
-pub mod YearPlaces
 pub mod SiteTaken
 pub mod StateLaws

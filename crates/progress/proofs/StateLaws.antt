@@ -3,7 +3,7 @@ use mathlib.Core.Path.{◌≡◌, refl, sym, subst}
 use mathlib.Core.Bool.{Bool, true, false, cond}
 use Prim.Native.Nat.{ℕ}
 use lib.Dec.{T}
-use Rattle.meaning.specs.Record.{open_state, refused_state, is_open, rec_fits, is_taken, site_of_rec, history_of_rec}
+use Rattle.meaning.specs.Record.{refused_state, is_open, rec_fits, is_taken, site_of_rec, history_of_rec}
 use Rattle.progress.specs.declared.State.{State}
 use Rattle.progress.specs.declared.State.TheVariants.{NeverOpened, Open, Refused, Closed}
 use Rattle.progress.specs.declared.Progress.{Progress}

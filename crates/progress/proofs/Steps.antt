@@ -22,7 +22,6 @@ use Rattle.refusals.specs.Refusals.{refusal_number, of_reason, unless_reason}
 use Rattle.refusals.proofs.Laws.{line_numbers}
 use Rattle.line_checks.proofs.Chain.{told_err}
 use Rattle.progress.specs.declared.Progress.{Progress}
-use Rattle.progress.specs.declared.Step.{Step}
 use Rattle.progress.specs.ProgressViews.{open_rec, taken_view, step_view}
 use Rattle.progress.specs.Steps.{Stepped, with_no_reading, stores_after, step_by, step_of, no_block, point_blocks, slot_block, daily_block}
 
@@ -67,9 +66,9 @@ within_taken : (join : Blocks → Blocks) (s : Rec) (r : std.Option Reading) (v 
 within_taken join s std.None v = refl
 within_taken join s (std.Some r) v = refl
 
-pub within_view : (join : Blocks → Blocks) (n : ℕ) (p : Progress) (r : Result Step Refusal) (v : Blocks) → within join (step_view n p r v) ≡ step_view n p r (join v)
+pub within_view : (join : Blocks → Blocks) (n : ℕ) (p : Progress) (r : Result (std.Option Reading) Refusal) (v : Blocks) → within join (step_view n p r v) ≡ step_view n p r (join v)
 within_view join n p (Err y) v = refl
-within_view join n p (Ok r) v = within_taken join (open_rec n r.progress) r.reading v
+within_view join n p (Ok r) v = within_taken join (open_rec n p) r v
 
 pub stay : (s : Rec) (l : Line) (t : Tag) (v w : Blocks) (join : Blocks → Blocks) (o : Stepped) → tag_of l ≡ t
     → join (stores_after t l s v) ≡ stores_after t l s w → join v ≡ w → o ≡ step_of s l v → within join o ≡ step_of s l w
@@ -80,43 +79,43 @@ stay s l t v w join o u a b e = rw e (go (refusal (before_of s) l))
     go none = rw (u, a)
     go (some y) = rw b
 
--- by tag, n lines before it
-module _ (n : ℕ) (p : Progress) (l : Line) (r : Result Step Refusal) (w : Blocks) where
+-- by tag, n lines before it, from progress p to q
+module _ (n : ℕ) (p q : Progress) (l : Line) (r : Result (std.Option Reading) Refusal) (w : Blocks) where
   stay_view : (t : Tag) (v v' : Blocks) (join : Blocks → Blocks) → tag_of l ≡ t → join (stores_after t l (open_rec n p) v) ≡ stores_after t l (open_rec n p) w → join v ≡ w
-      → step_view n p r v' ≡ step_of (open_rec n p) l v → step_view n p r (join v') ≡ step_of (open_rec n p) l w
-  stay_view t v v' join u a b e = sym (within_view join n p r v') ∙ stay (open_rec n p) l t v w join (step_view n p r v') u a b e
+      → step_view n q r v' ≡ step_of (open_rec n p) l v → step_view n q r (join v') ≡ step_of (open_rec n p) l w
+  stay_view t v v' join u a b e = sym (within_view join n q r v') ∙ stay (open_rec n p) l t v w join (step_view n q r v') u a b e
 
-  pub stay_s : tag_of l ≡ S → step_view n p r no_block ≡ step_of (open_rec n p) l no_block → step_view n p r w ≡ step_of (open_rec n p) l w
+  pub stay_s : tag_of l ≡ S → step_view n q r no_block ≡ step_of (open_rec n p) l no_block → step_view n q r w ≡ step_of (open_rec n p) l w
   unfolding stores_after blocks_after
   stay_s u = stay_view S no_block no_block (λ v. w) u refl refl
 
-  pub stay_x : tag_of l ≡ X → step_view n p r no_block ≡ step_of (open_rec n p) l no_block → step_view n p r w ≡ step_of (open_rec n p) l w
+  pub stay_x : tag_of l ≡ X → step_view n q r no_block ≡ step_of (open_rec n p) l no_block → step_view n q r w ≡ step_of (open_rec n p) l w
   unfolding stores_after blocks_after
   stay_x u = stay_view X no_block no_block (λ v. w) u refl refl
 
-  pub stay_b : tag_of l ≡ B → step_view n p r no_block ≡ step_of (open_rec n p) l no_block → step_view n p r w ≡ step_of (open_rec n p) l w
+  pub stay_b : tag_of l ≡ B → step_view n q r no_block ≡ step_of (open_rec n p) l no_block → step_view n q r w ≡ step_of (open_rec n p) l w
   unfolding stores_after blocks_after
   stay_b u = stay_view B no_block no_block (λ v. w) u refl refl
 
-  pub stay_r : tag_of l ≡ R → step_view n p r no_block ≡ step_of (open_rec n p) l no_block → step_view n p r w ≡ step_of (open_rec n p) l w
+  pub stay_r : tag_of l ≡ R → step_view n q r no_block ≡ step_of (open_rec n p) l no_block → step_view n q r w ≡ step_of (open_rec n p) l w
   unfolding stores_after blocks_after
   stay_r u = stay_view R no_block no_block (λ v. w) u refl refl
 
-  pub stay_e : tag_of l ≡ E → step_view n p r no_block ≡ step_of (open_rec n p) l no_block → step_view n p r w ≡ step_of (open_rec n p) l w
+  pub stay_e : tag_of l ≡ E → step_view n q r no_block ≡ step_of (open_rec n p) l no_block → step_view n q r w ≡ step_of (open_rec n p) l w
   unfolding stores_after blocks_after
   stay_e u = stay_view E no_block no_block (λ v. w) u refl refl
 
-  pub stay_c : (near far : List ℕ) → tag_of l ≡ C → step_view n p r (point_blocks near far) ≡ step_of (open_rec n p) l (point_blocks w.near w.far)
-      → step_view n p r (lent_blocks near far w.slots w.daily w.readings w.curve) ≡ step_of (open_rec n p) l w
+  pub stay_c : (near far : List ℕ) → tag_of l ≡ C → step_view n q r (point_blocks near far) ≡ step_of (open_rec n p) l (point_blocks w.near w.far)
+      → step_view n q r (lent_blocks near far w.slots w.daily w.readings w.curve) ≡ step_of (open_rec n p) l w
   unfolding stores_after blocks_after
   stay_c near far u = stay_view C (point_blocks w.near w.far) (point_blocks near far) (λ v. lent_blocks v.near v.far w.slots w.daily w.readings w.curve) u refl refl
 
-  pub stay_p : (slots : List ℕ) → tag_of l ≡ P → step_view n p r (slot_block slots) ≡ step_of (open_rec n p) l (slot_block w.slots)
-      → step_view n p r (lent_blocks w.near w.far slots w.daily w.readings w.curve) ≡ step_of (open_rec n p) l w
+  pub stay_p : (slots : List ℕ) → tag_of l ≡ P → step_view n q r (slot_block slots) ≡ step_of (open_rec n p) l (slot_block w.slots)
+      → step_view n q r (lent_blocks w.near w.far slots w.daily w.readings w.curve) ≡ step_of (open_rec n p) l w
   unfolding stores_after blocks_after
   stay_p slots u = stay_view P (slot_block w.slots) (slot_block slots) (λ v. lent_blocks w.near w.far v.slots w.daily w.readings w.curve) u refl refl
 
-  pub stay_d : (daily : List ℕ) → tag_of l ≡ D → step_view n p r (daily_block daily) ≡ step_of (open_rec n p) l (daily_block w.daily)
-      → step_view n p r (lent_blocks w.near w.far w.slots daily w.readings w.curve) ≡ step_of (open_rec n p) l w
+  pub stay_d : (daily : List ℕ) → tag_of l ≡ D → step_view n q r (daily_block daily) ≡ step_of (open_rec n p) l (daily_block w.daily)
+      → step_view n q r (lent_blocks w.near w.far w.slots daily w.readings w.curve) ≡ step_of (open_rec n p) l w
   unfolding stores_after blocks_after
   stay_d daily u = stay_view D (daily_block w.daily) (daily_block daily) (λ v. lent_blocks w.near w.far w.slots v.daily w.readings w.curve) u refl refl

@@ -14,7 +14,6 @@ use Rattle.progress.specs.Steps.{Stepped, with_no_reading, step_of}
 use Rattle.progress.specs.declared.State.{State}
 use Rattle.progress.specs.declared.State.TheVariants.{NeverOpened, Open, Refused, Closed}
 use Rattle.progress.specs.declared.Progress.{Progress}
-use Rattle.progress.specs.declared.Step.{Step}
 
 abbrev pub state_view : State → meant.State
 state_view NeverOpened = meant.unopened
@@ -43,11 +42,16 @@ abbrev pub taken_view : Rec → Option Reading → Blocks → Stepped
 taken_view s None w = with_no_reading 0 s w
 taken_view s (Some r) w = record { number = 0; after = s; reads = true; position = r.position; index = r.count; kind = kind_view r.kind; blocks = w }
 
--- a line on an open record of count n and this progress, with the blocks after it: refused, which leaves the record, or taken
-abbrev pub step_view : ℕ → Progress → Result Step Refusal → Blocks → Stepped
+-- a line on an open record of count n, with the progress and the blocks after it: refused, or taken with the reading that it gives
+abbrev pub step_view : ℕ → Progress → Result (Option Reading) Refusal → Blocks → Stepped
 step_view n p (Err y) w = with_no_reading (refusal_number y) (open_rec n p) w
-step_view n p (Ok r) w = taken_view (open_rec n r.progress) r.reading w
+step_view n p (Ok r) w = taken_view (open_rec n p) r w
 
--- for every count: only E uses it
-abbrev pub StepsTo : Progress → Line → Blocks → Result Step Refusal → Blocks → Type 0
-StepsTo p l w r w' = (n : ℕ) → step_view n p r w' ≡ step_of (open_rec n p) l w
+-- what is told of a line that has no reading
+abbrev pub without_reading : Result (Unit {0}) Refusal → Result (Option Reading) Refusal
+without_reading (Ok t) = Ok None
+without_reading (Err y) = Err y
+
+-- from the progress p and the blocks w to q and w', for every count: only E uses it
+abbrev pub StepsTo : Progress → Line → Blocks → Progress → Result (Option Reading) Refusal → Blocks → Type 0
+StepsTo p l w q r w' = (n : ℕ) → step_view n q r w' ≡ step_of (open_rec n p) l w

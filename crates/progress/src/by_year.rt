@@ -8,9 +8,10 @@ use crate::Tallies;
 use crate::year_range::each_year;
 use calendar::{all_dates, all_winter_dates, axis, history};
 
-// Whether each number by year is in its range, for the history of an AL and a filière.
-pub(crate) fn tallies_fit(al: u64, filiere: u64, tallies: Tallies) -> bool
-    ensures { result ≡ tallies_fit (history_years al filiere) (tallies_view tallies) }
+// Whether each number by year is in its range, for the history of an AL and a filière. By these and not by two spans, of which it would
+// have to be required that they belong together.
+pub(crate) fn tallies_fit(al: u64, filiere: u64, tallies: &Tallies) -> bool
+    ensures { result ≡ tallies_fit (history_years al filiere) (tallies_view tallies.now) }
 {
     let h = history(al, filiere);
     let around = axis(al, filiere);

@@ -8,7 +8,8 @@ use crate::LastDates;
 use crate::year_range::{date_fits, year_fits};
 use calendar::{axis, history};
 
-// Whether each last date or year is in its span, for the history of an AL and a filière.
+// Whether each last date or year is in its span, for the history of an AL and a filière. By these and not by two spans, of which it would
+// have to be required that they belong together.
 #[tactic(auto, unfolding(meaning::specs::Record::last_dates_fit))]
 pub(crate) fn last_dates_fit(al: u64, filiere: u64, lasts: LastDates) -> bool
     ensures { result ≡ last_dates_fit (history_years al filiere) (last_dates_view lasts) }

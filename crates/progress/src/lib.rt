@@ -1,7 +1,7 @@
 // The progress of a record, which is what its lines so far gave: the site, the last date of each tag, the number of readings, and numbers by year.
-// What an accepted line makes of it, and whether each number is in its field's range (1).
+// Whether each number is in its field's range (1); what an accepted line makes of the progress stands in `line_steps`.
 //
-// A step has the progress and, for an X line, the reading: the caller stores it and keeps state and count.
+// The caller keeps state and count, and the readings stand in the lent list.
 #![tactic(auto)]
 
 mod site_ranges; // 1 on what S gave: AL, filière, meter and PS
@@ -12,12 +12,11 @@ mod record_ranges; // 1 on all numbers of a record
 mod states; // whether a record is open
 
 use line_form::Site;
-use readings::Reading;
 pub use record_ranges::{once_taken, record_fits};
 pub use states::is_open;
 
 // A record takes lines from its opening until a refusal by 2 to 18 or a close that reports.
-#[derive(Clone, Copy)]
+#[derive(Clone, Copy, Debug, PartialEq, Eq)]
 pub enum State {
     NeverOpened,
     Open,
@@ -25,8 +24,9 @@ pub enum State {
     Closed,
 }
 
-// What the lines so far gave.
-#[derive(Clone, Copy)]
+// What the lines so far gave. Numbers of the public record: a caller may hand in any, and refusal 1 looks at them, where a narrower type (of the last tag, of a
+// break) would ask more.
+#[derive(Clone, Copy, Default)]
 pub struct Progress {
     // the rank of the last tag, 0 for none
     pub last: u64,
@@ -37,15 +37,8 @@ pub struct Progress {
     pub tallies: Tallies,
 }
 
-// What an accepted line gives: the progress after it, and the reading to store, which only an X line has. A refused line leaves the progress.
-#[derive(Clone, Copy)]
-pub struct Step {
-    pub progress: Progress,
-    pub reading: Option<Reading>,
-}
-
 // The last date of C, X, D, P as 366 times the year and the date place, the last year of B, R; 0 for none.
-#[derive(Clone, Copy)]
+#[derive(Clone, Copy, Default)]
 pub struct LastDates {
     pub c: u64,
     pub x: u64,
@@ -55,8 +48,9 @@ pub struct LastDates {
     pub r: u64,
 }
 
-// By year: P dates, breaks (0 no, 1 yes) and rates (0 for none) from the oldest history year, D dates from the first axis year.
-#[derive(Clone, Copy)]
+// An array for each kind of number, of fixed size since there is no heap, and not a struct for each year: 1 goes over one kind at a time, and D has two years more.
+// By year: P dates, breaks (0 no, 1 yes: any number may stand there, as above) and rates (0 for none) from the oldest history year, D dates from the first axis year.
+#[derive(Clone, Copy, Default)]
 pub struct Tallies {
     pub profile_dates: [u64; 10],
     pub daily_dates: [u64; 12],

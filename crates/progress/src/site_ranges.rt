@@ -1,4 +1,4 @@
-// 1 on what S gave: AL, filière, meter and PS.
+// 1 on what S gave: AL, filière, meter and PS. The ranges are those once S is taken and those before, so each test asks which (`taken`).
 ghost use Rattle.std.specs.Prelude.{◌≡◌};
 ghost use Rattle.meaning.specs.Record.{meter_fits};
 ghost use Rattle.line_form.specs.Views.{meter_view, site_view};
@@ -16,10 +16,10 @@ fn site_number_fits(taken: bool, least: u64, most: u64, n: u64) -> bool
 
 // Whether there is a meter once S is taken, and none before.
 #[tactic(auto, unfolding(meaning::specs::Record::meter_fits))]
-fn meter_fits(taken: bool, meter: Meter) -> bool
+fn meter_fits(taken: bool, meter: Option<Meter>) -> bool
     ensures { result ≡ meter_fits taken (meter_view meter) }
 {
-    taken != matches!(meter, Meter::NoMeter)
+    taken == meter.is_some()
 }
 
 #[tactic(auto, unfolding(crate::specs::SiteRanges::site_accepted, crate::specs::SiteRanges::site_number_fits, meaning::specs::Record::site_fits))]

@@ -8,5 +8,5 @@ use crate::State;
 pub fn is_open(state: State) -> bool
     ensures { result ≡ is_open (state_view state) }
 {
-    matches!(state, State::Open)
+    state == State::Open
 }

@@ -14,15 +14,19 @@ use Rattle.readings.specs.Columns.{reading_in, readings_in, lent_blocks_in, Colu
 use Rattle.readings.proofs.Laws.{columns_seen, seen_length, tab_all}
 
 -- the first of them are the first of the list
+pub first_read : (near far slots daily ps xs ks curve : List ℕ) (n : ℕ) → n ≤ readings_size → readings_of (lent_blocks_in near far slots daily ps xs ks curve) n ≡ readings_in ps xs ks n
+unfolding readings_of readings_in
+first_read near far slots daily ps xs ks curve n few =
+    tab_same n 0 (λ i. get_or (tab readings_size 0 (reading_in ps xs ks)) i fresh_reading) (reading_in ps xs ks)
+    (λ i l. get_d_tab0 readings_size (reading_in ps xs ks) i fresh_reading (omega (arith, l, few)))
+
 pub columned : (near far slots daily ps xs ks curve : List ℕ) (n : ℕ) → n ≤ readings_size
     → length ps ≡ readings_size → length xs ≡ readings_size → length ks ≡ readings_size → Columned (lent_blocks_in near far slots daily ps xs ks curve) n ps xs ks
-unfolding readings_of readings_in
 columned near far slots daily ps xs ks curve n few a b c = record {
   positions = a;
   indexes = b;
   kinds = c;
-  read = tab_same n 0 (λ i. get_or (tab readings_size 0 (reading_in ps xs ks)) i fresh_reading) (reading_in ps xs ks)
-      (λ i l. get_d_tab0 readings_size (reading_in ps xs ks) i fresh_reading (omega (arith, l, few)));
+  read = first_read near far slots daily ps xs ks curve n few;
 }
 
 -- a list of 600 is what its columns say

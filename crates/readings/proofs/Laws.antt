@@ -1,12 +1,10 @@
 -- Laws of the lent list: what it is after a store and when it is fresh, as a list that the definitions read and as columns.
 use mathlib.Core.Path.{◌≡◌, refl, sym, ap, ◌∙◌}
-use mathlib.Core.Bool.{Bool, true, false, cond}
-use mathlib.Core.List.{List, [], ◌∷◌, map}
-use Prim.Native.Nat.{ℕ, zero, suc, ◌≤◌}
-use native.Mathlib.Nat.{not-suc-le-zero, le_of_suc-le-suc}
+use mathlib.Core.List.{List, ◌∷◌, map}
+use Prim.Native.Nat.{ℕ, zero, suc}
 use native.Mathlib.Omega.{arith}
 use lib.Dec.{T}
-use lib.ListN.{length, get_or, set, replicate, length-map, length-replicate, get_or-map}
+use lib.ListN.{length, get_or, set, replicate, length-map, get_or-map}
 use lib.Seq.{ext_get_or}
 use Rattle.std.proofs.lemmas.List.{map-set}
 use Rattle.lists.specs.Lists.{tab}
@@ -36,26 +34,9 @@ pub seen_length : (rs : List Reading) → length (readings_view rs) ≡ length r
 unfolding readings_view
 seen_length rs = length-map rs reading_view
 
-pub seen_fresh : (all : Bool) (rs : List Reading) → readings_view (freshened all rs) ≡ cond all (replicate (length rs) (reading 0 0 estimated)) (readings_view rs)
+pub seen_fresh : (rs : List Reading) → readings_view (freshened rs) ≡ replicate (length rs) (reading 0 0 estimated)
 unfolding readings_view freshened
-seen_fresh true rs = map_replicate reading_view (length rs) fresh
-seen_fresh false rs = refl
-
--- a store past the end changes nothing
-pub put_past : (rs : List Reading) (i : ℕ) (r : Reading) → length rs ≤ i → rs ≡ set rs i r
-put_past [] i r l = refl
-put_past (y ∷ rs) zero r l = absurd (not-suc-le-zero l)
-put_past (y ∷ rs) (suc i) r l = ap (λ (zs : List Reading). y ∷ zs) (put_past rs i r (le_of_suc-le-suc l))
-
-pub fresh_length : (all : Bool) (rs : List Reading) → length (freshened all rs) ≡ length rs
-unfolding freshened
-fresh_length true rs = length-replicate (length rs) fresh
-fresh_length false rs = refl
-
--- ---- the columns after a store, and of fresh readings
-pub counts_length : (rs : List Reading) → length (counts_of rs) ≡ length rs
-unfolding counts_of
-counts_length rs = length-map rs (λ x. x.count)
+seen_fresh rs = map_replicate reading_view (length rs) fresh
 
 -- ---- the columns of 600 readings are those of the whole list
 pub tab_all : {A : Type 0} (n : ℕ) (xs : List A) (d : A) → length xs ≡ n → tab n 0 (λ i. get_or xs i d) ≡ xs

@@ -2,4 +2,3 @@ pub mod LetterKinds
 pub mod Laws
 pub mod ColumnLengths
 pub mod Columned
-pub mod MadeColumns

@@ -1,5 +1,5 @@
 -- The readings as a call is lent them, and as the definitions of document 01 read them (document 01, Calls).
-use Rattle.std.specs.Prelude.{Bool, cond, List, map, ◌≡◌, ℕ, length, get_or, replicate, Result, MatchResult}
+use Rattle.std.specs.Prelude.{List, map, ◌≡◌, ℕ, length, get_or, replicate, Result, MatchResult}
 use Rattle.lists.specs.Lists.{tab}
 use Rattle.meaning.specs.Filing as meant
 use Rattle.meaning.specs.Filing.{real, corrected, estimated, no_kind, reading}
@@ -27,9 +27,9 @@ kind_repr corrected = C
 kind_repr estimated = E
 kind_repr no_kind = E
 
--- the kind of the letter, or an error where the letter is none of the three
+-- the kind of the letter, or an error with the letter where it is none of the three
 abbrev pub Reads : ℕ → Result Kind UnknownKind → Type 0
-Reads letter r = MatchResult r (λ kind. kind_view kind ≡ kind_of_letter letter) (λ e. no_kind ≡ kind_of_letter letter)
+Reads letter r = MatchResult r (λ kind. kind_view kind ≡ kind_of_letter letter) (λ e. (no_kind ≡ kind_of_letter letter) × (e.0 ≡ letter))
 
 -- at position 0, count 0, kind E
 abbrev pub fresh : Reading
@@ -39,9 +39,9 @@ fresh = record { position = 0; count = 0; kind = E }
 unfoldable pub readings_view : List Reading → List meant.Reading
 readings_view rs = map reading_view rs
 
--- all fresh, or as they were
-unfoldable pub freshened : Bool → List Reading → List Reading
-freshened all rs = cond all (replicate (length rs) fresh) rs
+-- all fresh
+unfoldable pub freshened : List Reading → List Reading
+freshened rs = replicate (length rs) fresh
 
 -- ---- the columns of a list
 abbrev pub letter : Reading → ℕ

@@ -6,7 +6,7 @@ mod reading_list; // the functions that touch the lent list: one reading stored,
 ghost use Rattle.std.specs.Prelude.{◌≡◌};
 ghost use Rattle.meaning.specs.Line.{kind_of_letter, is_kind};
 ghost use Rattle.meaning.specs.Blocks.{letter_of_kind};
-ghost use Rattle.readings.specs.Readings.{kind_view, kind_repr, Reads, fresh_readings};
+ghost use Rattle.readings.specs.Readings.{kind_view, Reads, fresh_readings};
 
 pub use reading_list::{columns_of, put, set_fresh};
 
@@ -41,6 +41,7 @@ impl TryFrom<u8> for Kind {
 impl From<Kind> for u8 {
     ghost from_gives = { λ kind letter. letter ≡ letter_of_kind (kind_view kind) };
 
+    // The conversion itself, in one place.
     fn from(kind: Kind) -> u8 {
         match kind {
             Kind::R => b'R',
@@ -64,7 +65,8 @@ pub(crate) const FRESH: Reading = Reading {
     kind: Kind::E,
 };
 
-// The fields of 600 readings, a column for each, with the letters of the kinds: the core runs over plain columns, a rule of the project.
+// The fields of 600 readings, a column for each, arrays of fixed size since there is no heap. Document 01 lends readings as a slice of structs, which few functions touch, and has the core run over plain
+// columns. Kinds are letters there: what runs over columns promises its answer for any letter, and a column of kinds would ask more of its callers.
 #[derive(Clone, Copy)]
 pub struct Columns {
     pub positions: [u32; 600],
@@ -77,14 +79,6 @@ pub fn is_kind(letter: u8) -> bool
     ensures { result ≡ is_kind (kind_of_letter letter) }
 {
     Kind::try_from(letter).is_ok()
-}
-
-// The kind of a letter; one that is none of the three counts as E.
-#[tactic(auto, using(crate::proofs::LetterKinds::reads_or))]
-pub fn kind_of(letter: u8) -> Kind
-    ensures { result ≡ kind_repr (kind_of_letter letter) }
-{
-    Kind::try_from(letter).unwrap_or(Kind::E)
 }
 
 // 600 fresh readings, as many as a file can have: the list before an opening.

@@ -16,14 +16,12 @@ pub fn put(readings: &mut [Reading], i: usize, reading: Reading)
     }
 }
 
-// Makes all readings fresh, or none.
+// Makes all readings fresh.
 #[tactic(auto, unfolding(crate::specs::Readings::freshened))]
-pub fn set_fresh(readings: &mut [Reading], all: bool)
-    ensures { readings.new ≡ freshened all readings.old }
+pub fn set_fresh(readings: &mut [Reading])
+    ensures { readings.new ≡ freshened readings.old }
 {
-    if all {
-        readings.fill(FRESH);
-    }
+    readings.fill(FRESH);
 }
 
 // The reading at a place, a fresh one past the end.

@@ -8,16 +8,15 @@ ghost use Rattle.record_calls.specs.Views.{view, call_view, close_view};
 
 use crate::{CallResult, CloseResult, Record};
 use answers::{Answer, answer_to};
-use close::{ReadBlocks, close_blocks};
+use close::{LentReadings, ReadBlocks, close_blocks};
 use open_and_line::{apply_line, open_blocks};
 use progress::State;
 use readings::{Reading, columns_of, set_fresh};
-use refusals::Refusal;
 
 impl Record {
     // Opens the record. Always allowed where the blocks have their sizes, whatever record and blocks hold.
     pub fn open(
-        mut self,
+        self,
         near: &mut [u32],
         far: &mut [u32],
         slots: &mut [u16],
@@ -27,18 +26,18 @@ impl Record {
     ) -> CallResult
         ensures { call_view result (lent_blocks near.new far.new slots.new daily.new (readings_view readings.new) curve.new) ≡ opening_of (view self) (lent_blocks near.old far.old slots.old daily.old (readings_view readings.old) curve.old) }
     {
-        let sized = open_blocks(near, far, slots, daily, readings.len(), curve);
-        set_fresh(readings, sized);
-        if sized {
-            CallResult {
-                record: Record::empty(State::Open),
-                answer: Answer::Accepted,
+        match open_blocks(near, far, slots, daily, readings.len(), curve) {
+            Ok(()) => {
+                set_fresh(readings);
+                CallResult {
+                    record: Record::empty(State::Open),
+                    answer: Answer::Accepted,
+                }
             }
-        } else {
-            CallResult {
+            Err(refusal) => CallResult {
                 record: self,
-                answer: answer_to(Err(Refusal::Unfit), self.count),
-            }
+                answer: answer_to(Err(refusal), self.count),
+            },
         }
     }
 
@@ -58,7 +57,7 @@ impl Record {
         let outcome = apply_line(
             self.state,
             self.count,
-            self.progress,
+            &mut self.progress,
             line,
             near,
             far,
@@ -68,12 +67,10 @@ impl Record {
             curve.len(),
         );
         outcome.store(readings);
+        self.state = outcome.state;
+        self.count = outcome.count;
         CallResult {
-            record: Record {
-                state: outcome.state,
-                count: outcome.count,
-                progress: outcome.progress,
-            },
+            record: self,
             answer: outcome.answer,
         }
     }
@@ -100,8 +97,10 @@ impl Record {
                 slots,
                 daily,
             },
-            columns_of(readings),
-            readings.len(),
+            LentReadings {
+                columns: columns_of(readings),
+                listed: readings.len(),
+            },
             curve,
         );
         self.state = outcome.state;

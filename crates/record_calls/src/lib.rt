@@ -1,10 +1,10 @@
 // THE RECORD of a site and its calls: opening it, taking the lines of its file, closing it, with every block lent.
 //
-// Each call takes the record and hands it back, with the lent blocks as further parameters. What it promises is one equation: answer, record and all
-// lent lists are what the definitions of document 01 say of the record and the lists that it got.
+// Each call takes the record and hands it back, with the lent blocks as further parameters, as document 01 has them. What it promises is one equation:
+// answer, record and all lent lists are what the definitions of document 01 say of the record and the lists that it got.
 //
-// The work of a call is a function of the record's parts, in a crate below: methods stand in the crate of their type alone. The lent list of readings is touched apart from it: copied before a close, made fresh after
-// an opening, one reading stored after a line.
+// The work of a call is a function of the record's parts, in a crate below: methods stand in the crate of their type alone. The lent list of readings
+// is touched apart from it: copied before a close, made fresh after an opening, one reading stored after a line.
 #![tactic(auto)]
 
 mod calls; // opening, line and close
@@ -29,7 +29,8 @@ pub struct CallResult {
     pub answer: Answer,
 }
 
-// What a close hands back. The years are those of a report, from the oldest on: all 0 past the last, and on a refusal.
+// What a close hands back. The years are those of a report, from the oldest on: all 0 past the last, and on a refusal. An array of fixed size, since
+// there is no heap.
 #[derive(Clone, Copy)]
 pub struct CloseResult {
     pub record: Record,

@@ -1,5 +1,5 @@
 -- The number of each refusal, and the refusals that a line and a close meet by a reason of document 01 (both sections on stops).
-use Rattle.std.specs.Prelude.{ℕ, Result, Ok, Err}
+use Rattle.std.specs.Prelude.{Bool, cond, ℕ, Result, Ok, Err}
 use Rattle.std.proofs.Math.Option as math
 use Rattle.meaning.specs.Refusals.{Reason}
 use Rattle.meaning.specs.Refusals as line
@@ -27,6 +27,10 @@ refusal_number Partial = 15
 refusal_number NoData = 16
 refusal_number ZeroTotal = 17
 refusal_number TooHigh = 18
+
+-- the refusal where a check holds
+unfoldable pub refused_if : Bool → Refusal → Result Unit Refusal
+refused_if b y = cond b (Err y) (Ok tt)
 
 -- 2 to 12
 unfoldable pub of_reason : Reason → Refusal

@@ -2,7 +2,7 @@
 #![tactic(auto)]
 
 ghost use Rattle.std.specs.Prelude.{◌≡◌};
-ghost use Rattle.refusals.specs.Refusals.{refusal_number};
+ghost use Rattle.refusals.specs.Refusals.{refusal_number, refused_if};
 
 // Why a call is refused, in order of checking but for NotOpen, which comes right after Unfit.
 #[derive(Clone, Copy, Debug, PartialEq, Eq)]
@@ -34,4 +34,12 @@ impl From<Refusal> for u64 {
     fn from(refusal: Refusal) -> u64 {
         refusal as u64
     }
+}
+
+// The refusal where its check holds: the flag is the answer of a test.
+#[tactic(auto, unfolding(crate::specs::Refusals::refused_if))]
+pub fn refuse_if(check: bool, refusal: Refusal) -> Result<(), Refusal>
+    ensures { result ≡ refused_if check refusal }
+{
+    if check { Err(refusal) } else { Ok(()) }
 }

@@ -41,7 +41,8 @@ pub fn rebuilt(ca: u64, points: Power, cas: u64) -> Result<Power, Exceeds>
     limited(half_up(ca * points.0, cas))
 }
 
-// Cases 4 and 6. The product before CA × N is split by the divisor, since the whole product may not fit.
+// Cases 4 and 6. The product before CA × N is split by the divisor, since the whole product may not fit. The
+// parameters are the numbers of one formula.
 pub fn by_default(
     ps: u64,
     theta: u64,

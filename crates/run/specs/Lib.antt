@@ -1,2 +1,1 @@
 pub mod RunViews
-pub mod RunEnds

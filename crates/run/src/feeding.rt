@@ -7,58 +7,59 @@ ghost use Rattle.run.specs.RunViews.{run_view};
 
 use crate::lines::feed_lines;
 use crate::{OwnRun, Run};
-use own_calls::line_own;
 use pieces::{Joined, is_final};
+use readings::Reading;
 
-impl OwnRun {
-    // The run after a piece; one that has its final answer stays as it is. A pending line is joined with the piece: where it is then whole it is
-    // applied, and then those after it; else it stays pending.
-    pub fn feed(
+impl Run {
+    // The run after a piece. A pending line is joined with it: where it is then whole it is applied, and then those after it; else it stays pending.
+    // By value: behind a `&mut` the proof does not see that the pending line's array has 321 places.
+    fn fed(
         self,
         piece: &[u8],
         near: &mut [u32],
         far: &mut [u32],
         slots: &mut [u16],
         daily: &mut [u32],
+        readings: &mut [Reading],
         curve: &[u64],
-    ) -> OwnRun
-        ensures { run_view result.run (lent_blocks near.new far.new slots.new daily.new (readings_view result.readings) curve.now) ≡ fed (run_view self.run (lent_blocks near.old far.old slots.old daily.old (readings_view self.readings) curve.now)) piece.now }
+    ) -> Run
+        ensures { run_view result (lent_blocks near.new far.new slots.new daily.new (readings_view readings.new) curve.now) ≡ fed (run_view self (lent_blocks near.old far.old slots.old daily.old (readings_view readings.old) curve.now)) piece.now }
     {
-        let call = self.run.call;
-        let readings = self.readings;
+        let call = self.call;
         if is_final(call.answer) {
             return self;
         }
-        if self.run.pending.is_empty() {
-            return feed_lines(call, readings, piece, near, far, slots, daily, curve);
+        if self.pending.is_empty() {
+            return feed_lines(call, piece, near, far, slots, daily, readings, curve);
         }
-        match self.run.pending.join(piece) {
-            Joined::Begun(pending) => OwnRun {
-                run: Run { call, pending },
-                readings,
-            },
+        match self.pending.join(piece) {
+            Joined::Begun(pending) => Run { call, pending },
             Joined::Whole { line, bytes, used } => {
-                let applied = line_own(
-                    call.record,
-                    &line[..bytes],
-                    near,
-                    far,
-                    slots,
-                    daily,
-                    readings,
-                    curve,
-                );
-                feed_lines(
-                    applied.call,
-                    applied.readings,
-                    &piece[used..],
-                    near,
-                    far,
-                    slots,
-                    daily,
-                    curve,
-                )
+                let whole = &line[..bytes];
+                let rest = &piece[used..];
+                let call = call
+                    .record
+                    .line(whole, near, far, slots, daily, readings, curve);
+                feed_lines(call, rest, near, far, slots, daily, readings, curve)
             }
         }
+    }
+}
+
+impl OwnRun {
+    // Feeds a run a piece; one that has its final answer stays as it is.
+    pub fn feed(
+        &mut self,
+        piece: &[u8],
+        near: &mut [u32],
+        far: &mut [u32],
+        slots: &mut [u16],
+        daily: &mut [u32],
+        curve: &[u64],
+    )
+        ensures { run_view self.new.run (lent_blocks near.new far.new slots.new daily.new (readings_view self.new.readings) curve.now) ≡ fed (run_view self.old.run (lent_blocks near.old far.old slots.old daily.old (readings_view self.old.readings) curve.now)) piece.now }
+    {
+        let run = self.run;
+        self.run = run.fed(piece, near, far, slots, daily, &mut self.readings, curve);
     }
 }

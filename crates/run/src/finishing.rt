@@ -6,11 +6,9 @@ ghost use Rattle.readings.specs.Columns.{lent_blocks};
 ghost use Rattle.close.specs.Ends.{close_repr};
 ghost use Rattle.record_calls.specs.Views.{call_view, close_view};
 ghost use Rattle.run.specs.RunViews.{run_view};
-ghost use Rattle.run.specs.RunEnds.{SomeReadings};
 
-use crate::OwnRun;
-use close::YearRow;
-use own_calls::{close_own, line_own};
+use crate::{OwnRun, Run};
+use close::NO_YEARS;
 use pieces::is_final;
 use readings::Reading;
 use record_calls::{CallResult, CloseResult};
@@ -18,57 +16,62 @@ use record_calls::{CallResult, CloseResult};
 // The close after the last call, unless that gave a final answer: then no years stand beside it.
 fn close_unless_final<'a>(
     call: CallResult,
-    readings: [Reading; 600],
     near: &'a [u32],
     far: &'a [u32],
     slots: &[u16],
     daily: &[u32],
+    readings: &[Reading],
     curve: &mut [u64],
 ) -> CloseResult
-    ensures { close_view result (lent_blocks near.now far.now slots.now daily.now (readings_view readings) curve.new) ≡ close_repr (close_unless_final (call_view call (lent_blocks near.now far.now slots.now daily.now (readings_view readings) curve.old))) }
+    ensures { close_view result (lent_blocks near.now far.now slots.now daily.now (readings_view readings.now) curve.new) ≡ close_repr (close_unless_final (call_view call (lent_blocks near.now far.now slots.now daily.now (readings_view readings.now) curve.old))) }
 {
     if is_final(call.answer) {
-        let none = YearRow {
-            year: 0,
-            case: 0,
-            present: 0,
-        };
         return CloseResult {
             record: call.record,
             answer: call.answer,
-            years: [none; 10],
+            years: NO_YEARS,
         };
     }
-    close_own(call.record, near, far, slots, daily, readings, curve)
+    call.record.close(near, far, slots, daily, readings, curve)
+}
+
+impl Run {
+    // The last call before the close: a last line that has no byte 10 is applied. By value, as `fed` is.
+    fn last_call(
+        self,
+        near: &mut [u32],
+        far: &mut [u32],
+        slots: &mut [u16],
+        daily: &mut [u32],
+        readings: &mut [Reading],
+        curve: &[u64],
+    ) -> CallResult
+        ensures { close_unless_final (call_view result (lent_blocks near.new far.new slots.new daily.new (readings_view readings.new) curve.now)) ≡ finished (run_view self (lent_blocks near.old far.old slots.old daily.old (readings_view readings.old) curve.now)) }
+    {
+        let call = self.call;
+        if is_final(call.answer) || self.pending.is_empty() {
+            return call;
+        }
+        let last = self.pending.bytes();
+        call.record
+            .line(last, near, far, slots, daily, readings, curve)
+    }
 }
 
 impl OwnRun {
-    // The end of a run: a last line that has no byte 10, then the close. The readings are not returned.
+    // The end of a run: its last call, then the close.
     pub fn finish(
-        self,
+        &mut self,
         near: &mut [u32],
         far: &mut [u32],
         slots: &mut [u16],
         daily: &mut [u32],
         curve: &mut [u64],
     ) -> CloseResult
-        ensures { SomeReadings (λ rs. close_view result (lent_blocks near.new far.new slots.new daily.new (readings_view rs) curve.new) ≡ close_repr (finished (run_view self.run (lent_blocks near.old far.old slots.old daily.old (readings_view self.readings) curve.old)))) }
+        ensures { close_view result (lent_blocks near.new far.new slots.new daily.new (readings_view self.new.readings) curve.new) ≡ close_repr (finished (run_view self.old.run (lent_blocks near.old far.old slots.old daily.old (readings_view self.old.readings) curve.old))) }
     {
-        let call = self.run.call;
-        let readings = self.readings;
-        if is_final(call.answer) || self.run.pending.is_empty() {
-            return close_unless_final(call, readings, near, far, slots, daily, curve);
-        }
-        let last = self.run.pending.bytes();
-        let applied = line_own(call.record, last, near, far, slots, daily, readings, curve);
-        close_unless_final(
-            applied.call,
-            applied.readings,
-            near,
-            far,
-            slots,
-            daily,
-            curve,
-        )
+        let run = self.run;
+        let call = run.last_call(near, far, slots, daily, &mut self.readings, curve);
+        close_unless_final(call, near, far, slots, daily, &self.readings, curve)
     }
 }

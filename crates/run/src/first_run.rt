@@ -7,7 +7,6 @@ ghost use Rattle.readings.specs.Columns.{lent_blocks};
 ghost use Rattle.run.specs.RunViews.{run_view};
 
 use crate::{OwnRun, Run};
-use own_calls::open_own;
 use pieces::Pending;
 use readings::fresh_readings;
 use record_calls::Record;
@@ -21,17 +20,8 @@ pub fn begin(
 ) -> OwnRun
     ensures { run_view result.run (lent_blocks near.new far.new slots.new daily.new (readings_view result.readings) curve.new) ≡ started never_opened (lent_blocks near.old far.old slots.old daily.old (readings_view fresh_readings) curve.old) }
 {
-    let opened = open_own(
-        Record::never_opened(),
-        near,
-        far,
-        slots,
-        daily,
-        fresh_readings(),
-        curve,
-    );
-    let call = opened.call;
-    let readings = opened.readings;
+    let mut readings = fresh_readings();
+    let call = Record::never_opened().open(near, far, slots, daily, &mut readings, curve);
     let pending = Pending::of(&[]);
     OwnRun {
         run: Run { call, pending },

@@ -1,7 +1,9 @@
 // A run over the input of one filing: opened, fed piece by piece, ended. It keeps the record, its answer, the readings and the pending line.
 //
-// What each function promises is one equation with the run of the definitions (`pieces`, specs/Run). The readings are an array that is taken and
-// returned. The lent blocks stay further parameters, as at the record's own calls.
+// What each function promises is one equation with the run of the definitions (`pieces`, specs/Run). The readings are the run's own, an array
+// since there is no heap. The other blocks are lent as further parameters, as document 01 has them at the record's calls. No form is plainer:
+// each function only hands them on to those calls, which take every block as a parameter of its own, of any size; arrays in the run would ask for the
+// right size.
 #![tactic(auto)]
 
 mod first_run; // a run at its start, on a record that is opened

@@ -6,8 +6,8 @@ ghost use Rattle.readings.specs.Columns.{lent_blocks};
 ghost use Rattle.record_calls.specs.Views.{call_view};
 ghost use Rattle.run.specs.RunViews.{run_view};
 
-use crate::{OwnRun, Run};
-use piece_lines::apply_lines_own;
+use crate::Run;
+use piece_lines::apply_lines;
 use pieces::Pending;
 use readings::Reading;
 use record_calls::CallResult;
@@ -15,22 +15,19 @@ use record_calls::CallResult;
 // The run after the lines of a piece: what is left of the piece is pending.
 pub(crate) fn feed_lines(
     call: CallResult,
-    readings: [Reading; 600],
     piece: &[u8],
     near: &mut [u32],
     far: &mut [u32],
     slots: &mut [u16],
     daily: &mut [u32],
+    readings: &mut [Reading],
     curve: &[u64],
-) -> OwnRun
-    ensures { run_view result.run (lent_blocks near.new far.new slots.new daily.new (readings_view result.readings) curve.now) ≡ fed (run_of (call_view call (lent_blocks near.old far.old slots.old daily.old (readings_view readings) curve.now)) []) piece.now }
+) -> Run
+    ensures { run_view result (lent_blocks near.new far.new slots.new daily.new (readings_view readings.new) curve.now) ≡ fed (run_of (call_view call (lent_blocks near.old far.old slots.old daily.old (readings_view readings.old) curve.now)) []) piece.now }
 {
-    let applied = apply_lines_own(call, piece, near, far, slots, daily, readings, curve);
-    OwnRun {
-        run: Run {
-            call: applied.call,
-            pending: Pending::of(applied.rest),
-        },
-        readings: applied.readings,
+    let applied = apply_lines(call, piece, near, far, slots, daily, readings, curve);
+    Run {
+        call: applied.call,
+        pending: Pending::of(applied.rest),
     }
 }

@@ -1,11 +1,15 @@
 -- The text of an answer and its years (document 01, The printed sheet).
-use Rattle.std.specs.Prelude.{◌≡◌, cond, List, [], ◌++◌, map, ℕ, eqb, length, take}
+use Rattle.std.specs.Prelude.{◌≡◌, cond, List, [], ◌∷◌, ◌++◌, map, ℕ, eqb, length, take}
 use Rattle.lists.specs.Lists.{flat}
-use Rattle.meaning.specs.Text.{level_text, year_text, refusal_line}
+use Rattle.meaning.specs.Text.{end_byte, tabbed, level_text, year_text, refusal_line}
 use Rattle.close.specs.declared.outcome.file.YearRow.{YearRow}
 use Rattle.answers.specs.declared.Answer.{Answer}
 use Rattle.answers.specs.declared.Answer.TheVariants.{Accepted, Refused, Reported}
 use Rattle.sheet.specs.declared.Printed.{Printed}
+
+-- a letter, and each number after a tab
+unfoldable pub line_text : ℕ → List ℕ → List ℕ
+line_text c ns = (c ∷ []) ++ (flat (map tabbed ns) ++ (end_byte ∷ []))
 
 -- a year that the file does not have has no line
 unfoldable pub row_text : YearRow → List ℕ

@@ -2,17 +2,17 @@
 #![tactic(auto)]
 
 mod parts; // a byte, and a tabbed number
-mod refusal_line; // the line Z of a refusal
-mod report_lines; // the lines N and Y of a report
+mod lines; // a line of a letter and numbers, and that of a year
 
-ghost use Rattle.std.specs.Prelude.{◌≤◌, length};
+ghost use Rattle.std.specs.Prelude.{◌≡◌, ◌≤◌, length, min, take};
 ghost use Rattle.sheet.specs.Adds.{Adds};
 ghost use Rattle.sheet.specs.SheetTexts.{row_text, rows_text, sheet_text, Holds};
 
 use answers::Answer;
 use close::YearRow;
 
-// A sheet's text: the first `length` bytes. An array with its length, since memory is fixed and there is no heap.
+// A sheet's text: the first `length` bytes. An array with its length, since memory is fixed and there is no heap; the kit's
+// vector of fixed capacity is not `Copy`, which a run's result is, and its string takes UTF-8 alone, where a row's letter may be any byte.
 #[derive(Clone, Copy)]
 pub struct Printed {
     pub bytes: [u8; 546],
@@ -20,6 +20,13 @@ pub struct Printed {
 }
 
 impl Printed {
+    // The text.
+    pub fn as_bytes(&self) -> &[u8]
+        ensures { result.now ≡ take (min self.now.length 546) self.now.bytes }
+    {
+        &self.bytes[..self.length.min(546)]
+    }
+
     // A year that the file does not have has no line.
     fn put_row(&mut self, year: YearRow)
         ensures row { Adds self.old self.new (row_text year) }
@@ -44,15 +51,15 @@ impl Printed {
         ensures short { length (sheet_text answer years) ≤ 546 }
     {
         match answer {
-            Answer::Accepted => self.put_refusal(0, 0),
-            Answer::Refused { number, count } => self.put_refusal(number, count),
+            Answer::Accepted => self.put_line(b'Z', &[0, 0]),
+            Answer::Refused { number, count } => self.put_line(b'Z', &[number, count]),
             Answer::Reported {
                 al,
                 filiere,
                 level,
                 points,
             } => {
-                self.put_level(al, filiere, level, points);
+                self.put_line(b'N', &[al, filiere, level, points]);
                 self.put_rows(years);
             }
         }

@@ -36,6 +36,7 @@ fn named(rt: &HostRuntime, i: usize) -> io::Result<bool> {
 }
 
 fn main(rt: HostRuntime) -> io::Result<()> {
+    // by their numbers: `env::args` gives each as a `String`, and there is no heap
     for i in 1..usize::MAX {
         if !named(&rt, i)? {
             break;

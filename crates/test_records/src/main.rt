@@ -14,10 +14,10 @@ mod written; // a case by its name and the answers
 mod cases; // the cases
 
 use crate::cases::{
-    breaks_and_rates, dates_by_year, fields_before_s, last_axis_dates, last_winter_dates,
-    last_years, plain_fields, points_held, profiles_held, readings_held, site_fields, sizes,
+    AXIS_DATES, BREAKS_AND_RATES, DATES_BY_YEAR, FIELDS_BEFORE_S, PLAIN_FIELDS, POINTS_HELD,
+    PROFILES_HELD, READINGS_HELD, SITE_FIELDS, SIZES, WINTER_DATES, YEARS,
 };
-use crate::written::opening;
+use crate::written::{cases, last_dates, opening, sizes};
 use std::io;
 
 // The record before it is forged: wind, run of river (history 2011 to 2020), or a record without S.
@@ -32,7 +32,8 @@ pub(crate) enum Base {
     MeterBeforeS,
 }
 
-// What is forged, and to which value; by year or by place, with the number of the year or the place.
+// What is forged, and to which value; by year or by place, with the number of the year or the place. Nothing is a case of its own and no Option, which
+// would be no plainer: all other rows of the tables would say Some.
 #[derive(Clone, Copy)]
 pub(crate) enum Forge {
     Nothing,
@@ -69,18 +70,21 @@ pub(crate) enum Forge {
 }
 
 fn main(rt: HostRuntime) -> io::Result<()> {
-    plain_fields(&rt)?;
-    site_fields(&rt)?;
-    fields_before_s(&rt)?;
-    last_winter_dates(&rt)?;
-    last_axis_dates(&rt)?;
-    last_years(&rt)?;
-    dates_by_year(&rt)?;
-    breaks_and_rates(&rt)?;
-    points_held(&rt)?;
-    profiles_held(&rt)?;
-    readings_held(&rt)?;
-    sizes(&rt)?;
+    cases(&rt, &PLAIN_FIELDS)?;
+    cases(&rt, &SITE_FIELDS)?;
+    cases(&rt, &FIELDS_BEFORE_S)?;
+    last_dates(&rt, "C", Forge::LastC, &WINTER_DATES)?;
+    last_dates(&rt, "P", Forge::LastP, &WINTER_DATES)?;
+    last_dates(&rt, "X", Forge::LastX, &AXIS_DATES)?;
+    last_dates(&rt, "D", Forge::LastD, &AXIS_DATES)?;
+    last_dates(&rt, "B", Forge::LastB, &YEARS)?;
+    last_dates(&rt, "R", Forge::LastR, &YEARS)?;
+    cases(&rt, &DATES_BY_YEAR)?;
+    cases(&rt, &BREAKS_AND_RATES)?;
+    cases(&rt, &POINTS_HELD)?;
+    cases(&rt, &PROFILES_HELD)?;
+    cases(&rt, &READINGS_HELD)?;
+    sizes(&rt, &SIZES)?;
     opening(
         &rt,
         "opening on the record out of range",

@@ -1,149 +1,91 @@
 // The record of a case, with what is forged in it.
 use crate::held::set_at;
 use crate::{Base, Forge};
-use line_form::{Meter, NO_TAG, Site};
-use progress::{LastDates, Progress, State, Tallies};
+use line_form::{Meter, Site};
+use progress::{Progress, State, Tallies};
 use record_calls::Record;
+
+// What S gives of wind.
+const WIND: Site = Site {
+    al: 2025,
+    filiere: 2,
+    meter: Some(Meter::Curve),
+    ps: 5_000_000,
+};
 
 pub(crate) fn is_before_s(base: Base) -> bool {
     matches!(base, Base::BeforeS | Base::MeterBeforeS)
 }
 
-fn meter_of(base: Base) -> Meter {
+// The record before it is forged, after S with the last tag that its call needs: a number, as the record has it.
+fn base_record(base: Base, last: u64) -> Record {
+    let mut record = Record::never_opened();
+    record.state = State::Open;
+    if !is_before_s(base) {
+        record.count = 1;
+        record.progress.last = last;
+        record.progress.site = WIND;
+    }
     match base {
-        Base::IndexMeter => Meter::Index,
-        Base::NoMeter | Base::BeforeS => Meter::NoMeter,
-        _ => Meter::Curve,
+        Base::Wind | Base::BeforeS => {}
+        Base::River => record.progress.site.filiere = 4,
+        Base::IndexMeter => record.progress.site.meter = Some(Meter::Index),
+        Base::NoMeter => record.progress.site.meter = None,
+        Base::Refused => record.state = State::Refused,
+        Base::MeterBeforeS => record.progress.site.meter = Some(Meter::Curve),
     }
+    record
 }
 
-fn state_of(base: Base) -> State {
-    match base {
-        Base::Refused => State::Refused,
-        _ => State::Open,
-    }
-}
-
-// A site with its power in W.
-fn site(al: u64, filiere: u64, meter: Meter, ps: u64) -> Site {
-    Site {
-        al,
-        filiere,
-        meter,
-        ps,
-    }
-}
-
-fn base_site(base: Base) -> Site {
-    let meter = meter_of(base);
-    match base {
-        Base::BeforeS | Base::MeterBeforeS => site(0, 0, meter, 0),
-        Base::River => site(2025, 4, meter, 5_000_000),
-        _ => site(2025, 2, meter, 5_000_000),
-    }
-}
-
-fn site_of(base: Base, forge: Forge) -> Site {
-    let old = base_site(base);
+fn forge_site(site: &mut Site, forge: Forge) {
     match forge {
-        Forge::Al(al) => Site { al, ..old },
-        Forge::Filiere(filiere) => Site { filiere, ..old },
-        Forge::Both(al, filiere) => Site { al, filiere, ..old },
-        Forge::Ps(ps) => Site { ps, ..old },
-        _ => old,
-    }
-}
-
-fn last_dates_of(forge: Forge) -> LastDates {
-    let mut lasts = LastDates {
-        c: 0,
-        x: 0,
-        d: 0,
-        p: 0,
-        b: 0,
-        r: 0,
-    };
-    match forge {
-        Forge::LastC(n) => lasts.c = n,
-        Forge::LastX(n) => lasts.x = n,
-        Forge::LastD(n) => lasts.d = n,
-        Forge::LastP(n) => lasts.p = n,
-        Forge::LastB(n) => lasts.b = n,
-        Forge::LastR(n) => lasts.r = n,
+        Forge::Al(al) => site.al = al,
+        Forge::Filiere(filiere) => site.filiere = filiere,
+        Forge::Both(al, filiere) => {
+            site.al = al;
+            site.filiere = filiere;
+        }
+        Forge::Ps(ps) => site.ps = ps,
         _ => {}
     }
-    lasts
 }
 
-// Numbers by year are 0 but for the one that is forged.
-fn tallies_of(forge: Forge) -> Tallies {
-    let mut profile_dates = [0u64; 10];
-    let mut daily_dates = [0u64; 12];
-    let mut breaks = [0u64; 10];
-    let mut rates = [0u64; 10];
+// Two readings are counted where one of them is forged.
+fn forge_progress(progress: &mut Progress, forge: Forge) {
     match forge {
-        Forge::ProfileDates(k, n) => set_at(&mut profile_dates, k, n),
-        Forge::DailyDates(k, n) => set_at(&mut daily_dates, k, n),
-        Forge::Break(k, n) => set_at(&mut breaks, k, n),
-        Forge::Rate(k, n) => set_at(&mut rates, k, n),
+        Forge::Last(tag) => progress.last = tag,
+        Forge::Readings(n) => progress.readings = n,
+        Forge::Position(_, _) | Forge::Index(_, _) => progress.readings = 2,
+        Forge::LastIndex(n) => progress.last_index = n,
+        Forge::LastC(date) => progress.lasts.c = date,
+        Forge::LastX(date) => progress.lasts.x = date,
+        Forge::LastD(date) => progress.lasts.d = date,
+        Forge::LastP(date) => progress.lasts.p = date,
+        Forge::LastB(year) => progress.lasts.b = year,
+        Forge::LastR(year) => progress.lasts.r = year,
         _ => {}
     }
-    Tallies {
-        profile_dates,
-        daily_dates,
-        breaks,
-        rates,
-    }
 }
 
-fn last_tag_of(base: Base, forge: Forge, last: u64) -> u64 {
-    if is_before_s(base) {
-        return NO_TAG;
-    }
+// The number of a year, where the record has it.
+fn forge_tallies(tallies: &mut Tallies, forge: Forge) {
     match forge {
-        Forge::Last(n) => n,
-        _ => last,
+        Forge::ProfileDates(k, n) => set_at(&mut tallies.profile_dates, k, n),
+        Forge::DailyDates(k, n) => set_at(&mut tallies.daily_dates, k, n),
+        Forge::Break(k, n) => set_at(&mut tallies.breaks, k, n),
+        Forge::Rate(k, n) => set_at(&mut tallies.rates, k, n),
+        _ => {}
     }
 }
 
-fn readings_of(forge: Forge) -> u64 {
-    match forge {
-        Forge::Readings(n) => n,
-        Forge::Position(_, _) | Forge::Index(_, _) => 2,
-        _ => 0,
-    }
-}
-
-fn last_index_of(forge: Forge) -> u64 {
-    match forge {
-        Forge::LastIndex(n) => n,
-        _ => 0,
-    }
-}
-
-fn count_of(base: Base, forge: Forge) -> u64 {
-    if is_before_s(base) {
-        return 0;
-    }
-    match forge {
-        Forge::Count(n) => n,
-        _ => 1,
-    }
-}
-
-// The record with the last tag that its call needs.
+// The record of a case, forged. The last tag is a number, as the record has it.
 pub(crate) fn record_of(base: Base, forge: Forge, last: u64) -> Record {
-    let progress = Progress {
-        last: last_tag_of(base, forge, last),
-        site: site_of(base, forge),
-        readings: readings_of(forge),
-        last_index: last_index_of(forge),
-        lasts: last_dates_of(forge),
-        tallies: tallies_of(forge),
-    };
-    Record {
-        state: state_of(base),
-        count: count_of(base, forge),
-        progress,
+    let mut record = base_record(base, last);
+    if let Forge::Count(n) = forge {
+        record.count = n;
     }
+    forge_progress(&mut record.progress, forge);
+    forge_site(&mut record.progress.site, forge);
+    forge_tallies(&mut record.progress.tallies, forge);
+    record
 }

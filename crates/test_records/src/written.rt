@@ -1,5 +1,6 @@
-// A case by its name and the answers to it.
+// The cases by their names and the answers to them.
 use crate::calls::{close_answer, line_answer, open_answer};
+use crate::cases::Case;
 use crate::records::is_before_s;
 use crate::{Base, Forge};
 use answers::Answer;
@@ -23,38 +24,51 @@ fn put_line_answer(rt: &impl Print, base: Base, forge: Forge) -> io::Result<()> 
     put_answer(rt, line_answer(base, forge, b"E\t1"))
 }
 
-// What is forged, the line's answer and the close's.
-pub(crate) fn case(rt: &impl Print, name: &str, base: Base, forge: Forge) -> io::Result<()> {
-    print!(rt; "{name}")?;
+// The line's answer and the close's, which end the case's row.
+fn put_answers(rt: &impl Print, base: Base, forge: Forge) -> io::Result<()> {
     put_line_answer(rt, base, forge)?;
     put_answer(rt, close_answer(base, forge))?;
-    println!(rt; "")
+    println!(rt)
 }
 
-pub(crate) fn wind(rt: &impl Print, name: &str, forge: Forge) -> io::Result<()> {
-    case(rt, name, Base::Wind, forge)
+// What is forged, the line's answer and the close's.
+pub(crate) fn cases(rt: &impl Print, rows: &[Case]) -> io::Result<()> {
+    for (name, base, forge) in rows {
+        print!(rt; "{name}")?;
+        put_answers(rt, *base, *forge)?;
+    }
+    Ok(())
 }
 
-pub(crate) fn river(rt: &impl Print, name: &str, forge: Forge) -> io::Result<()> {
-    case(rt, name, Base::River, forge)
+// The same for the last dates, or years, of a tag.
+pub(crate) fn last_dates<F: Fn(u64) -> Forge>(
+    rt: &impl Print,
+    letter: &str,
+    last: F,
+    dates: &[(&str, u64)],
+) -> io::Result<()>
+    requires { F.IsAlwaysCallable last }
+{
+    for (name, date) in dates {
+        print!(rt; "last {letter} {name}")?;
+        put_answers(rt, Base::Wind, last(*date))?;
+    }
+    Ok(())
 }
 
-pub(crate) fn before_s(rt: &impl Print, name: &str, forge: Forge) -> io::Result<()> {
-    case(rt, name, Base::BeforeS, forge)
-}
-
-// The same with the opening's answer before them.
-pub(crate) fn sized(rt: &impl Print, name: &str, forge: Forge) -> io::Result<()> {
-    print!(rt; "{name}")?;
-    put_answer(rt, open_answer(forge))?;
-    put_line_answer(rt, Base::Wind, forge)?;
-    put_answer(rt, close_answer(Base::Wind, forge))?;
-    println!(rt; "")
+// Blocks of other sizes, with the opening's answer before the two.
+pub(crate) fn sizes(rt: &impl Print, rows: &[(&str, Forge)]) -> io::Result<()> {
+    for (name, forge) in rows {
+        print!(rt; "{name}")?;
+        put_answer(rt, open_answer(*forge))?;
+        put_answers(rt, Base::Wind, *forge)?;
+    }
+    Ok(())
 }
 
 // The opening's answer alone.
 pub(crate) fn opening(rt: &impl Print, name: &str, forge: Forge) -> io::Result<()> {
     print!(rt; "{name}")?;
     put_answer(rt, open_answer(forge))?;
-    println!(rt; "")
+    println!(rt)
 }

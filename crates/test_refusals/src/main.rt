@@ -3,111 +3,77 @@
 // A line = ends a case, and a line ~ is passed on with a near block of another size.
 #![tactic(auto)]
 
-ghost use Rattle.std.specs.Prelude.{◌≤◌, ◌<◌, length, IfOk, IfSome};
+ghost use Rattle.std.specs.Prelude.{◌≤◌, length, IfOk};
 
 use answers::Answer;
 use blocks::NO_POINT;
-use own_calls::{OwnResult, line_own, open_own};
 use readings::{Reading, fresh_readings};
 use record_calls::Record;
 use std::io;
 use std::io::Read;
 
-// What is to be written of a step: nothing, a refusal, or a case's end after so many lines.
+// What is to be written of a step: a refusal, or a case's end after so many lines.
 #[derive(Clone, Copy)]
 enum Said {
-    Nothing,
+    // a number as the answer has it, which may be any
     Refusal { number: u64, count: u64 },
     CaseEnd { count: u64 },
 }
 
-// A record with its readings, and what is to be written.
+// A record with what its calls are lent, but for the near block, which a line ~ is lent at another size. Arrays, since memory is fixed and there is
+// no heap.
 #[derive(Clone, Copy)]
-struct Stepped {
+struct Held {
     record: Record,
+    far: [u32; 15200],
+    slots: [u16; 30400],
+    daily: [u32; 4392],
     readings: [Reading; 600],
-    said: Said,
-}
-
-// The first byte 10 of a text. A function of its own: the search for it is proved where it is what the function returns.
-fn first_end(text: &[u8]) -> Option<usize>
-    ensures { IfSome result (λ e. e < length text.now) }
-{
-    text.iter().position(|byte| *byte == b'\n')
-}
-
-// Where the line that starts at `at` ends: its byte 10, or the end.
-fn line_end(text: &[u8], at: usize) -> usize
-    requires { at ≤ length text.now }
-    ensures { (at ≤ result) × (result ≤ length text.now) }
-{
-    match first_end(&text[at..]) {
-        Some(bytes) => at + bytes,
-        None => text.len(),
-    }
-}
-
-fn is_sign(line: &[u8], sign: u8) -> bool {
-    line.len() == 1 && line[0] == sign
+    curve: [u64; 4400],
 }
 
 // What is written of an answer; no close is called, so none is reported.
-fn said_of(answer: Answer) -> Said {
+fn said_of(answer: Answer) -> Option<Said> {
     match answer {
-        Answer::Refused { number, count } => Said::Refusal { number, count },
-        Answer::Accepted | Answer::Reported { .. } => Said::Nothing,
+        Answer::Refused { number, count } => Some(Said::Refusal { number, count }),
+        Answer::Accepted | Answer::Reported { .. } => None,
     }
 }
 
-fn step_of(res: OwnResult, said: Said) -> Stepped {
-    let readings = res.readings;
-    Stepped {
-        record: res.call.record,
-        readings,
-        said,
+impl Held {
+    // Makes the record and the blocks fresh for the next case.
+    fn end_case(&mut self, near: &mut [u32]) -> Said {
+        let count = self.record.count;
+        let opened = self.record.open(
+            near,
+            &mut self.far,
+            &mut self.slots,
+            &mut self.daily,
+            &mut self.readings,
+            &mut self.curve,
+        );
+        self.record = opened.record;
+        Said::CaseEnd { count }
+    }
+
+    // Applies a line to the record.
+    fn take(&mut self, line: &[u8], near: &mut [u32]) -> Option<Said> {
+        let taken = self.record.line(
+            line,
+            near,
+            &mut self.far,
+            &mut self.slots,
+            &mut self.daily,
+            &mut self.readings,
+            &self.curve,
+        );
+        self.record = taken.record;
+        said_of(taken.answer)
     }
 }
 
-// How many places of the near block a line is lent.
-fn lent(line: &[u8], size: usize) -> usize
-    ensures { result ≤ size }
-{
-    if is_sign(line, b'~') { 0 } else { size }
-}
-
-// Applies a line to the record. At a case's end the blocks are made fresh for the next one.
-fn step(
-    record: Record,
-    readings: [Reading; 600],
-    line: &[u8],
-    near: &mut [u32],
-    far: &mut [u32],
-    slots: &mut [u16],
-    daily: &mut [u32],
-    curve: &mut [u64],
-) -> Stepped {
-    if is_sign(line, b'=') {
-        let count = record.count;
-        let fresh = open_own(record, near, far, slots, daily, readings, curve);
-        return step_of(fresh, Said::CaseEnd { count });
-    }
-    let size = lent(line, near.len());
-    let result = line_own(
-        record,
-        line,
-        &mut near[..size],
-        far,
-        slots,
-        daily,
-        readings,
-        curve,
-    );
-    step_of(result, said_of(result.call.answer))
-}
-
-fn write_step(rt: &impl Print, said: Said) -> io::Result<()> {
+fn write_said(rt: &impl Print, said: Said) -> io::Result<()> {
     match said {
-        Said::Nothing => Ok(()),
         Said::Refusal { number, count } => println!(rt; "{number}\t{count}"),
         Said::CaseEnd { count } => println!(rt; "=\t{count}"),
     }
@@ -130,26 +96,27 @@ fn read_full<R: Read>(input: &mut R, buf: &mut [u8]) -> io::Result<usize>
 }
 
 fn main(rt: HostRuntime) -> io::Result<()> {
-    let mut near = [NO_POINT; 15200];
-    let mut far = [NO_POINT; 15200];
-    let mut slots = [0u16; 30400];
-    let mut daily = [0u32; 4392];
-    let mut curve = [0u64; 4400];
     let mut text = [0u8; 65536];
     let n = read_full(&mut rt.stdin(), &mut text)?;
-    let mut record = Record::never_opened();
-    let mut readings = fresh_readings();
-    let mut at = 0;
-    while at < n {
-        let e = line_end(&text, at);
-        let line = &text[at..e];
-        let next = step(
-            record, readings, line, &mut near, &mut far, &mut slots, &mut daily, &mut curve,
-        );
-        write_step(&rt, next.said)?;
-        record = next.record;
-        readings = next.readings;
-        at = e + 1;
+    let mut near = [NO_POINT; 15200];
+    let mut held = Held {
+        record: Record::never_opened(),
+        far: [NO_POINT; 15200],
+        slots: [0; 30400],
+        daily: [0; 4392],
+        readings: fresh_readings(),
+        curve: [0; 4400],
+    };
+    for ended in text[..n].split_inclusive(|byte| *byte == b'\n') {
+        let line = ended.strip_suffix(b"\n").unwrap_or(ended);
+        let said = match line {
+            b"=" => Some(held.end_case(&mut near)),
+            b"~" => held.take(line, &mut []),
+            _ => held.take(line, &mut near),
+        };
+        if let Some(said) = said {
+            write_said(&rt, said)?;
+        }
     }
     Ok(())
 }

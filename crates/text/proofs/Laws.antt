@@ -20,7 +20,8 @@ use Rattle.lists.specs.Lists.{any, Each, each_nil, each_cons}
 use Rattle.lists.proofs.Laws.{any_snoc}
 use Rattle.lists.proofs.Reflect.{of_eq, of_and}
 use Rattle.text.specs.Fields.{is_invalid, up_to, past, tab_at, tabs, rest_at, field_at, reads}
-use Rattle.text.specs.NumberFields.{number_field_of}
+use Rattle.std.specs.Bool.{then_some}
+use Rattle.text.specs.NumberFields.{number_in, number_field_of}
 use Rattle.text.specs.declared.NumberField.{NumberField}
 use Rattle.text.proofs.NumberLaws.{value_snoc, number_snoc, eqb_capped}
 
@@ -119,8 +120,8 @@ invalid_here s i h t n e =
     rw (up_take s, sym (any_listed is_invalid f), list_any_at is_invalid f i 0 k x)
 
 pub numbered : (s : List ℕ) (i n : ℕ) (b : Bool) (v : ℕ) → n ≡ i → i ≡ tab_at s → any is_invalid (take i s) ≡ false → b ≡ is_number (take i s) → v ≡ min (value_of (take i s)) most
-    → ◌≡◌ {A = Option NumberField} (Some (record { length = n; formed = b; value = v })) (number_field_of s)
-unfolding number_field_of
+    → ◌≡◌ {A = Option NumberField} (Some (record { length = n; number = then_some b v })) (number_field_of s)
+unfolding number_field_of number_in
 numbered s i n b v h e g p q =
     let f : take i s ≡ up_to s = first_of s i e in
     rw (h, p, q, f, e, rw f at g)
@@ -132,25 +133,24 @@ pub ruleset number_steps = (tab_here, tab_on, tab_end, valid_on, number_next, va
 pub record FieldRead (n : NumberField) (s : List ℕ) : Type 0 where
   pub valid : any is_invalid (up_to s) ≡ false
   pub length_is : n.length ≡ tab_at s
-  pub formed_is : n.formed ≡ is_number (up_to s)
-  pub value_is : n.value ≡ min (value_of (up_to s)) most
+  pub number_is : n.number ≡ number_in (up_to s)
 
 pub some_read : (s : List ℕ) (n : NumberField) → Some n ≡ number_field_of s → FieldRead n s
 unfolding number_field_of
 some_read s n e = go (any is_invalid (up_to s)) refl e
   where
     whole : NumberField
-    whole = record { length = tab_at s; formed = is_number (up_to s); value = min (value_of (up_to s)) most }
+    whole = record { length = tab_at s; number = number_in (up_to s) }
 
     go : (b : Bool) → any is_invalid (up_to s) ≡ b → ◌≡◌ {A = Option NumberField} (Some n) (cond b None (Some whole)) → FieldRead n s
     go true q r = absurd (cc)
-    go false q r = let k : n ≡ whole = cc in rw k (record { valid = q; length_is = refl; formed_is = refl; value_is = refl })
+    go false q r = let k : n ≡ whole = cc in rw k (record { valid = q; length_is = refl; number_is = refl })
 
 pub none_read : (s : List ℕ) → ◌≡◌ {A = Option NumberField} None (number_field_of s) → any is_invalid (up_to s) ≡ true
 unfolding number_field_of
 none_read s e = go (any is_invalid (up_to s)) refl e
   where
-    go : (b : Bool) → any is_invalid (up_to s) ≡ b → ◌≡◌ {A = Option NumberField} None (cond b None (Some (record { length = tab_at s; formed = is_number (up_to s); value = min (value_of (up_to s)) most }))) → b ≡ true
+    go : (b : Bool) → any is_invalid (up_to s) ≡ b → ◌≡◌ {A = Option NumberField} None (cond b None (Some (record { length = tab_at s; number = number_in (up_to s) }))) → b ≡ true
     go true q r = refl
     go false q r = absurd (cc)
 

@@ -58,9 +58,6 @@ module _ (w : List ℕ) (a : ℕ) (s u : List ℕ) (h : a + length (s ++ u) ≤ 
       ∙ ap (λ (r : List ℕ). drop (length u) r) (drop_written w a s fits_first)
       ∙ drop-drop (length u) (a + length s) w
 
-  pub place_next : place_after (written w a s) (place_after w a s) u ≡ place_after w a (s ++ u)
-  place_next = rw (place_fits w a s fits_first) (omega (arith, place_fits (written w a s) (a + length s) u fits_next, place_fits w a (s ++ u) h, length-append s u))
-
   pub written_next : written (written w a s) (place_after w a s) u ≡ written w a (s ++ u)
   written_next =
       let n : a + length (s ++ u) ≡ a + length s + length u = omega (arith, length-append s u) in

@@ -2,7 +2,7 @@
 #![tactic(auto)]
 
 mod fields; // the first field of a line, what comes after its tab, and the text of the edition
-mod numbers; // a number, read byte by byte
+mod numbers; // whether bytes read so far are a number, and the cap of a number
 mod invalid_bytes; // invalid bytes: other than tab and 32 to 126
 mod number_fields; // the first field as a number, in one walk over its bytes
 mod written_text; // bytes put from a place on, or none of them where they do not fit
@@ -16,10 +16,9 @@ pub use written_text::{put_byte, put_text};
 
 pub(crate) const TAB: u8 = b'\t';
 
-// The first field: how many bytes it has, whether they are a number, and what they make as digits, capped at 10^18, which is promised of every field.
+// The first field: how many bytes it has, and its number, capped at 10^18; none where they are no number.
 #[derive(Clone, Copy)]
 pub struct NumberField {
     pub length: usize,
-    pub formed: bool,
-    pub value: u64,
+    pub number: Option<u64>,
 }

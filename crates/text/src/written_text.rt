@@ -1,5 +1,5 @@
 // Text put into lent bytes: from a place on, all of it or, where it does not fit, nothing. Returns the place after it, which is the same place where
-// nothing is put: an Option is no plainer, as a row of texts is put by a chain of calls, each from the place that the one before it returned.
+// nothing is put: the callers keep bytes of fixed size with how many of them are text (no heap), and the place is that number from then on.
 ghost use Rattle.std.specs.Prelude.{◌≡◌, [], ◌∷◌};
 ghost use Rattle.text.specs.Written.{written, place_after};
 

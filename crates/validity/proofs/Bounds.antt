@@ -14,7 +14,7 @@ use Rattle.lists.specs.Lists.{first_of, tab, range, sum}
 use Rattle.lists.proofs.Laws.{length_tab, get_d_tab0}
 use Rattle.lists.proofs.Reflect.{of_eq, of_or}
 use Rattle.lists.proofs.Snoc.{all_at_at}
-use Rattle.lists.proofs.Loops.{sum_most}
+use Rattle.lists.proofs.Sums.{sum_most}
 use Rattle.lists.proofs.Ranges.{map_tab, first_found}
 use Rattle.lists.proofs.Tests.{and_right}
 use Rattle.calendar.specs.declared.Years.{Years}

@@ -4,7 +4,7 @@ use Prim.Native.Nat.{ℕ, ◌≤◌}
 use native.Mathlib.Omega.{arith}
 use Rattle.lists.specs.Lists.{range}
 use Rattle.lists.proofs.Laws.{length_tab}
-use Rattle.lists.proofs.Loops.{count_most, sum_most}
+use Rattle.lists.proofs.Sums.{count_most, sum_most}
 use Rattle.validity.specs.Availability.{is_present, present_on_day, present_in_row}
 use Rattle.note.specs.Peaks.{peak_days}
 use Rattle.note.proofs.PeakDays.{days_length, most_days}

@@ -1,6 +1,5 @@
 // The number of peak points in a year's row, and whether its curve is valid.
-ghost use Rattle.std.specs.Prelude.{◌≡◌, ◌<◌, ◌≤◌, get_or};
-ghost use Rattle.note.specs.Peaks.{peak_count, peak_days};
+ghost use Rattle.std.specs.Prelude.{◌≡◌, ◌<◌, ◌≤◌};
 ghost use Rattle.meaning.specs.Validity.{enough};
 ghost use Rattle.validity.specs.Availability.{is_present, present_on_day, availability_of, valid_row};
 
@@ -41,29 +40,18 @@ fn present_on_day(row: &[u32], w: usize) -> usize
     (0..HALF_HOURS).filter(|h| is_present(row, w, *h)).count()
 }
 
-// The same for the year's k-th peak day.
-fn present_on_peak_day(row: &[u32], year: u64, k: usize) -> usize
-    requires { k < peak_count year }
-    ensures { result ≡ present_on_day row.now (get_or (peak_days year) k 0) }
-{
-    match note::peak_day(year, k) {
-        Some(w) => present_on_day(row, w),
-        None => 0,
-    }
-}
-
 // Both counts, in one pass over the peak days, for any row.
 pub(crate) fn availability(row: &[u32], year: u64) -> Counts
     ensures { result ≡ availability_of row.now year }
 {
-    let days = note::peak_count(year);
+    let days = note::peak_days(year);
     Counts {
-        present: (0..days).map(|k| present_on_peak_day(row, year, k)).sum(),
-        expected: HALF_HOURS * days,
+        present: days.iter().map(|w| present_on_day(row, *w)).sum(),
+        expected: HALF_HOURS * days.len(),
     }
 }
 
-// Whether at least 80% of the peak points are present and no break is declared.
+// Whether at least 80% of the peak points are present and no break is declared. A break is a fact of the year, no choice of steps.
 #[tactic(auto, using(crate::proofs::Parts::year_most, crate::proofs::Parts::expected_most), unfolding(crate::specs::Availability::availability_of, crate::specs::Availability::valid_row))]
 pub fn is_valid(row: &[u32], year: u64, broken: bool) -> bool
     ensures { result ≡ valid_row row.now year broken }

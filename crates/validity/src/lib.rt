@@ -6,6 +6,5 @@ mod curves; // the number of peak points in a year's row, and whether its curve 
 mod columns; // the readings as columns, and whether the interval between two neighbours has winter days
 mod intervals; // whether an index year is valid; the energy and the daily total around each day
 
-pub use columns::{in_winter, interval_count, position_of};
+pub use columns::Counted;
 pub use curves::is_valid;
-pub use intervals::{by_position, index_valid};

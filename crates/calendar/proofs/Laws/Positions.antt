@@ -4,10 +4,10 @@ use mathlib.Core.Logic.{◌↔◌, ◌⊎◌, inl, inr, ⊎_elim}
 use mathlib.Core.Bool.{Bool, true, false, not, ◌&&◌, ◌||◌, cond}
 use Prim.Native.Nat.{ℕ, ◌+◌, ◌-◌, ◌*◌, ◌/◌, ◌%◌, ◌≤◌, ◌<◌}
 use native.Mathlib.Omega.{arith}
-use lib.Dec.{T, leb, ltb, eqb, leb→le, le→leb, ltb→lt, lt→ltb, lit≤}
+use lib.Dec.{T, leb, ltb, eqb, leb→le, lit≤}
 use borrow.Author.Tests.{ne_eqb}
 use Rattle.lists.proofs.Reflect.{of_and, of_le, of_lt}
-use Rattle.lists.proofs.Tests.{same, is_false, is_true, and_left, and_right, and_made, passed}
+use Rattle.lists.proofs.Tests.{is_false, is_true, and_left, and_right, passed}
 use Rattle.calendar.specs.Dates.{is_day}
 use Rattle.calendar.specs.Places.{date_place, month_of, day_of}
 use Rattle.calendar.specs.Spans.{years, among, history_length, is_known, history_years, axis_years, position_of, year_at, place_at}
@@ -158,14 +158,6 @@ unfolding axis_years
 axis_among h y t =
     let span = (among_words h y).0 t in
     rw (ne_eqb h.count 0 (λ e. omega arith)) ((among_words (years (h.first - 1) (h.count + 2)) y).1 (omega arith))
-
--- the test without the sum, which could be too large for a machine number
-pub among_by_count : (s : Years) (y : ℕ) → s.first ≤ y → ltb (y - s.first) s.count ≡ among s y
-unfolding among
-among_by_count s y h =
-    same (ltb (y - s.first) s.count) (leb s.first y && ltb y (s.first + s.count))
-    (λ t. and_made (leb s.first y) _ (le→leb s.first y h) (lt→ltb y (s.first + s.count) (omega (arith, ltb→lt (y - s.first) s.count t))))
-    (λ t. lt→ltb (y - s.first) s.count (omega (arith, ltb→lt y (s.first + s.count) (and_right (leb s.first y) _ t))))
 
 -- ---- positions
 pub record PositionParts (axis : Years) (y m d : ℕ) : Type 0 where

@@ -90,15 +90,6 @@ winter_rises w v = go (winter_parts w) (winter_parts v)
     go (inr a) (inl b) = (λ h. omega arith, λ h. omega arith)
     go (inr a) (inr b) = (λ h. omega arith, λ h. omega arith)
 
-pub winter_same : (w v : ℕ) → date_of_winter w ≡ date_of_winter v → w ≡ v
-winter_same w v e = go (winter_parts w) (winter_parts v)
-  where
-    go : FirstPeriod w ⊎ SecondPeriod w → FirstPeriod v ⊎ SecondPeriod v → w ≡ v
-    go (inl a) (inl b) = omega arith
-    go (inl a) (inr b) = omega arith
-    go (inr a) (inl b) = omega arith
-    go (inr a) (inr b) = omega arith
-
 pub earlier_winter_place : (m d n e : ℕ) → T (is_day m d) → T (is_winter m) → T (is_day n e) → T (is_winter n) → EarlierDay m d n e ↔ (winter_place m d < winter_place n e)
 earlier_winter_place m d n e s u t v =
     let a = winter_day_place m d s u in

@@ -5,12 +5,12 @@ ghost use Rattle.refusals.specs.Refusals.{refusal_number};
 ghost use Rattle.close.specs.Ends.{refused_of, close_outcome_of};
 
 use crate::outcome::file::{FileReport, NO_YEARS, YearRow};
-use answers::Answer;
+use answers::{Answer, answer_to};
 use line_form::Site;
 use progress::State;
 use refusals::Refusal;
 
-// The answer, the record's state, and the years of a report from the oldest on; all 0 after the last, and for a refusal.
+// The answer, the record's state, and the years of a report from the oldest on; all 0 after the last, and for a refusal. Ten places: there is no heap.
 #[derive(Clone, Copy)]
 pub struct CloseOutcome {
     pub answer: Answer,
@@ -22,22 +22,20 @@ pub struct CloseOutcome {
 pub(crate) fn state_after(refusal: Refusal, state: State) -> State
     ensures { result ≡ cond (eqb (refusal_number refusal) 14) Refused state }
 {
-    match refusal {
-        Refusal::NoEnd => State::Refused,
-        _ => state,
+    if refusal == Refusal::NoEnd {
+        State::Refused
+    } else {
+        state
     }
 }
 
 // The result of a refusal; the count is the record's.
-#[tactic(auto, unfolding(crate::specs::Ends::no_years))]
+#[tactic(auto, unfolding(crate::specs::Ends::no_years, answers::specs::Views::answer_to))]
 pub(crate) fn refuse(state: State, count: u64, refusal: Refusal) -> CloseOutcome
     ensures { result ≡ refused_of state count refusal }
 {
     CloseOutcome {
-        answer: Answer::Refused {
-            number: refusal.into(),
-            count,
-        },
+        answer: answer_to(Err(refusal), count),
         state,
         years: NO_YEARS,
     }

@@ -1,7 +1,7 @@
 // The report of a file: level, points and years.
 
-// A history year: its case as printed on the sheet, and its points present. All 0 where the file has no such year. The case is a letter and not a
-// `Case`: the sheet's text is promised of every row.
+// A history year: its case as printed on the sheet, and its points present. All 0 where the file has no such year: a close hands back fixed values
+// there and on a refusal, which an Option would change. The case is a letter and not a `Case`: the sheet's text is promised of every row.
 #[derive(Clone, Copy, PartialEq, Eq)]
 pub struct YearRow {
     pub year: u64,
@@ -9,7 +9,7 @@ pub struct YearRow {
     pub present: u64,
 }
 
-// The level in W, the points counted and the years, from the oldest on.
+// The level in W, the points counted and the years, from the oldest on: a place for each year of the longest history, since there is no heap.
 #[derive(Clone, Copy)]
 pub(crate) struct FileReport {
     pub level: u64,
@@ -17,9 +17,12 @@ pub(crate) struct FileReport {
     pub years: [YearRow; 10],
 }
 
-// Ten empty years, for a refusal, and for a report before its years are set.
-pub(crate) const NO_YEARS: [YearRow; 10] = [YearRow {
+// A year that the file does not have.
+pub(crate) const NO_YEAR: YearRow = YearRow {
     year: 0,
     case: 0,
     present: 0,
-}; 10];
+};
+
+// The years beside a refusal.
+pub const NO_YEARS: [YearRow; 10] = [NO_YEAR; 10];

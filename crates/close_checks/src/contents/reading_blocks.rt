@@ -1,53 +1,43 @@
 // Refusal 1 at the close: readings. Each is at a date of the axis and is what X can give, in order.
-ghost use Rattle.std.specs.Prelude.{◌≡◌, ◌≤◌, length};
+ghost use Rattle.std.specs.Prelude.{◌≡◌};
 ghost use Rattle.meaning.specs.Filing.{reading};
 ghost use Rattle.meaning.specs.Line.{kind_of_letter};
 ghost use Rattle.meaning.specs.Record.{reading_fits, readings_fit};
 ghost use Rattle.readings.specs.Columns.{readings_in};
 
-use crate::contents::axis_blocks::is_placed;
-use calendar::Years;
+use crate::contents::axis_blocks::Axis;
 use readings::is_kind;
+use validity::Counted;
 
-const MOST_INDEX: u64 = 1000000000000;
+const MOST_INDEX: u64 = 1_000_000_000_000;
 
-#[tactic(auto, unfolding(meaning::specs::Record::reading_fits, crate::specs::Axis::placed_at))]
-fn reading_fits(axis: Years, position: u32, index: u64, kind: u8) -> bool
-    requires { axis.first ≤ 9999 }
-    ensures { result ≡ reading_fits axis (reading position index (kind_of_letter kind)) }
-{
-    index <= MOST_INDEX && is_kind(kind) && is_placed(axis, position as usize)
-}
-
-// Whether the first n readings of the plain columns fit, in one pass with the least position and the least index that those before allow.
-pub(crate) fn readings_fit(
-    positions: &[u32],
-    indexes: &[u64],
-    kinds: &[u8],
-    n: usize,
-    axis: Years,
-) -> bool
-    requires n_in_bounds { (n ≤ length positions.now) × ((n ≤ length indexes.now) × (n ≤ length kinds.now)) }
-    requires first_bound { axis.first ≤ 9999 }
-    ensures { result ≡ readings_fit axis (readings_in positions.now indexes.now kinds.now n) }
-{
-    let mut least: u64 = 0;
-    let mut index: u64 = 0;
-    for k in 0..n {
-        let p = positions[k];
-        let x = indexes[k];
-        if !reading_fits(axis, p, x, kinds[k]) {
-            return false;
-        }
-        let at = p as u64;
-        if at < least {
-            return false;
-        }
-        if x < index {
-            return false;
-        }
-        least = at + 1;
-        index = x;
+impl Axis {
+    #[tactic(auto, unfolding(meaning::specs::Record::reading_fits, crate::specs::Axis::placed_at))]
+    fn reading_fits(self, position: usize, index: u64, kind: u8) -> bool
+        ensures { result ≡ reading_fits self.years (reading position index (kind_of_letter kind)) }
+    {
+        index <= MOST_INDEX && is_kind(kind) && self.is_placed(position)
     }
-    true
+
+    // Whether the counted readings fit, in one pass. A `for`, since each is tested by the least position and the least index that the one before
+    // allows, and the first that does not fit ends it.
+    pub(crate) fn readings_fit(self, readings: &Counted<'_>) -> bool
+        ensures { result ≡ readings_fit self.years (readings_in readings.now.positions.now readings.now.indexes.now readings.now.kinds.now readings.now.n) }
+    {
+        let mut least = 0;
+        let mut index = 0;
+        for k in 0..readings.n {
+            let p = readings.position(k);
+            let x = readings.index(k);
+            if !self.reading_fits(p, x, readings.letter(k)) {
+                return false;
+            }
+            if p < least || x < index {
+                return false;
+            }
+            least = p + 1;
+            index = x;
+        }
+        true
+    }
 }

@@ -3,7 +3,8 @@ ghost use Rattle.std.specs.Prelude.{◌≡◌, ◌≤◌};
 ghost use Rattle.meaning.specs.Closing.{is_partial};
 ghost use Rattle.validity.specs.Dates.{partial_dates};
 
-use calendar::{all_dates, all_winter_dates};
+use calendar::{Years, all_dates, all_winter_dates};
+use progress::Tallies;
 
 #[tactic(auto, unfolding(meaning::specs::Closing::is_partial))]
 fn is_partial(n: u64, full: u64) -> bool
@@ -12,19 +13,18 @@ fn is_partial(n: u64, full: u64) -> bool
     n != 0 && n != full
 }
 
-// 15: whether some year has P or D dates, but not all of them. The history years are `count` years from `first`.
-pub(crate) fn partial(
-    first: u64,
-    count: u64,
-    profile_dates: [u64; 10],
-    daily_dates: [u64; 12],
-) -> bool
-    requires { (first ≤ 9999) × (count ≤ 10) }
-    ensures { result ≡ partial_dates first count profile_dates daily_dates }
+// 15: whether some year has P or D dates, but not all of them.
+pub(crate) fn partial(history: Years, tallies: &Tallies) -> bool
+    requires { (history.first ≤ 9999) × (history.count ≤ 10) }
+    ensures { result ≡ partial_dates history.first history.count tallies.now.profile_dates tallies.now.daily_dates }
 {
-    let years = count as usize;
+    let first = history.first;
+    let years = history.count as usize;
     let axis_first = first.saturating_sub(1);
-    (0..years).any(|k| is_partial(profile_dates[k], all_winter_dates(first + k as u64)))
+    (0..years).any(|k| is_partial(tallies.profile_dates[k], all_winter_dates(first + k as u64)))
         || (years != 0
-            && (0..years + 2).any(|k| is_partial(daily_dates[k], all_dates(axis_first + k as u64))))
+            && (0..years + 2).any(|k| is_partial(
+                tallies.daily_dates[k],
+                all_dates(axis_first + k as u64),
+            )))
 }

@@ -2,73 +2,56 @@
 ghost use Rattle.std.specs.Prelude.{◌≡◌, length};
 ghost use Rattle.meaning.specs.Line.{C, P};
 ghost use Rattle.line_checks.specs.Before.{EachTagged, SomeTagged};
-ghost use Rattle.progress.specs.ProgressViews.{StepsTo};
+ghost use Rattle.progress.specs.ProgressViews.{StepsTo, without_reading};
 ghost use Rattle.progress.specs.Steps.{point_blocks, slot_block, FewDates};
 
 use crate::points_and_profiles::checks::{check_points, check_profiles};
 use blocks::{put_points, put_profiles};
-use calendar::history;
 use line_form::{Fields, Tag, rank};
-use progress::{Progress, Step};
+use progress::Progress;
 use refusals::Refusal;
 
 // Applies a C line: 20 points in the row of its year.
 pub fn points_line(
-    mut progress: Progress,
+    progress: &mut Progress,
     fields: Fields,
     near: &mut [u32],
     far: &mut [u32],
-) -> Result<Step, Refusal>
+) -> Result<(), Refusal>
     requires { SomeTagged C fields × ((length near.old ≡ 15200) × (length far.old ≡ 15200)) }
-    ensures { EachTagged C fields (λ l. StepsTo progress l (point_blocks near.old far.old) result (point_blocks near.new far.new)) }
+    ensures { EachTagged C fields (λ l. StepsTo progress.old l (point_blocks near.old far.old) progress.new (without_reading result) (point_blocks near.new far.new)) }
 {
-    let site = progress.site;
-    let mut codes = [0u64; 20];
-    let checked = check_points(
-        fields,
-        progress.last,
-        site.meter,
-        site.al,
-        site.filiere,
-        progress.lasts.c,
-        &mut codes,
-    )?;
-    put_points(near, far, site.al, checked.year, checked.place, &codes);
-    progress.lasts.c = checked.key;
+    let checked = check_points(progress, fields)?;
+    let date = checked.date;
+    put_points(
+        near,
+        far,
+        progress.site.al,
+        date.year,
+        date.place,
+        &checked.codes,
+    );
+    progress.lasts.c = date.key;
     progress.last = rank(Tag::C);
-    Ok(Step {
-        progress,
-        reading: None,
-    })
+    Ok(())
 }
 
 // Applies a P line: 20 profile values in the row of its year, and one more date.
 pub fn profiles_line(
-    mut progress: Progress,
+    progress: &mut Progress,
     fields: Fields,
     slots: &mut [u16],
-) -> Result<Step, Refusal>
-    requires { SomeTagged P fields × FewDates progress.tallies.profile_dates × (length slots.old ≡ 30400) }
-    ensures { EachTagged P fields (λ l. StepsTo progress l (slot_block slots.old) result (slot_block slots.new)) }
+) -> Result<(), Refusal>
+    requires { SomeTagged P fields × FewDates progress.old.tallies.profile_dates × (length slots.old ≡ 30400) }
+    ensures { EachTagged P fields (λ l. StepsTo progress.old l (slot_block slots.old) progress.new (without_reading result) (slot_block slots.new)) }
 {
-    let site = progress.site;
-    let mut codes = [0u64; 20];
-    let checked = check_profiles(
-        fields,
-        progress.last,
-        site.al,
-        site.filiere,
-        progress.lasts.p,
-        &mut codes,
-    )?;
-    let years = history(site.al, site.filiere);
-    let i = (checked.year - years.first) as usize;
-    put_profiles(slots, years.first, checked.year, checked.place, &codes);
+    let checked = check_profiles(progress, fields)?;
+    let date = checked.date;
+    let years = progress.site.history();
+    let i = years.row(date.year);
+    put_profiles(slots, years.first, date.year, date.place, &checked.codes);
     progress.tallies.profile_dates[i] += 1;
-    progress.lasts.p = checked.key;
+    progress.lasts.p = date.key;
     progress.last = rank(Tag::P);
-    Ok(Step {
-        progress,
-        reading: None,
-    })
+    Ok(())
 }

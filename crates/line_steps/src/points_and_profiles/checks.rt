@@ -1,21 +1,21 @@
-// The refusals 4 to 12 of C and P: a winter date of a history year, and 20 values, returned as codes even where the line is refused.
-ghost use Rattle.std.specs.Prelude.{◌≡◌, ◌||◌, not};
-ghost use Rattle.calendar.specs.Spans.{history_years, among};
+// The refusals 4 to 12 of C and P: a winter date of a history year, and 20 values, as codes.
+ghost use Rattle.std.specs.Prelude.{◌≡◌};
+ghost use Rattle.calendar.specs.Spans.{history_years};
 ghost use Rattle.meaning.specs.Line.{C, P};
 ghost use Rattle.meaning.specs.File.{is_index_meter};
 ghost use Rattle.meaning.specs.Refusals.{refusal};
 ghost use Rattle.refusals.specs.Refusals.{unless_reason};
 ghost use Rattle.line_form.specs.Views.{meter_view};
-ghost use Rattle.line_form.specs.Codes.{point_row, profile_row};
 ghost use Rattle.line_checks.specs.Before.{EachTagged, before_points, before_rising};
 ghost use Rattle.line_steps.specs.Places.{points_misplaced};
-ghost use Rattle.line_steps.specs.PointAnswers.{date_on, winter_checked};
+ghost use Rattle.line_steps.specs.PointAnswers.{points_on, profiles_on, winter_checked};
 
-use calendar::history;
+use calendar::{Date, Years};
 use line_checks::{
-    dated_checks, in_order, is_misplaced, points_outside, profiles_outside, winter_at,
+    dated_checks, in_order, is_misplaced, is_outside, points_outside, profiles_outside, winter_at,
 };
-use line_form::{DateRead, Fields, Meter, Tag, read_points, read_profiles};
+use line_form::{Fields, Meter, Tag, read_points, read_profiles};
+use progress::Progress;
 use refusals::Refusal;
 
 // The date of a C or P line: the year, the winter place, and the key, which must rise.
@@ -26,78 +26,66 @@ pub(crate) struct DateChecked {
     pub key: u64,
 }
 
-fn is_index(meter: Meter) -> bool
+// What a C or P line says: its date, and its 20 values as codes, in an array: there is no heap.
+#[derive(Clone, Copy)]
+pub(crate) struct RowChecked {
+    pub date: DateChecked,
+    pub codes: [u64; 20],
+}
+
+fn is_index(meter: Option<Meter>) -> bool
     ensures { result ≡ is_index_meter (meter_view meter) }
 {
-    matches!(meter, Meter::Index)
+    matches!(meter, Some(Meter::Index))
 }
 
 // 4 for C: out of order, or in an I file.
 #[tactic(auto, unfolding(crate::specs::Places::points_misplaced))]
-fn points_misplaced(last: u64, meter: Meter) -> bool
-    ensures { result ≡ points_misplaced last (meter_view meter) }
+fn points_misplaced(progress: &Progress) -> bool
+    ensures { result ≡ points_misplaced progress.now.last (meter_view progress.now.site.meter) }
 {
-    is_misplaced(last, Tag::C) || is_index(meter)
+    is_misplaced(progress.last, Tag::C) || is_index(progress.site.meter)
 }
 
-// 6: a year outside the history, or a value outside its range.
-fn is_outside(al: u64, filiere: u64, year: u64, above: bool) -> bool
-    ensures { result ≡ (not (among (history_years al filiere) year) || above) }
-{
-    !history(al, filiere).contains(year) || above
-}
-
-// The date of a C or P line, by whether it is misplaced, what it says, and whether a value is above its range.
+// 6 to 8 of a C or P line on its date: a winter date of the years, later than the last of its tag.
+// `above` is the answer of the test of its values, which is 6 too.
 #[tactic(auto, unfolding(crate::specs::PointAnswers::winter_checked))]
-fn check_winter(
-    misplaced: bool,
-    read: Option<DateRead>,
-    above: bool,
-    al: u64,
-    filiere: u64,
-    latest: u64,
-) -> Result<DateChecked, Refusal>
-    ensures { result ≡ winter_checked misplaced read above (history_years al filiere) latest }
+fn check_winter(years: Years, date: Date, above: bool, latest: u64) -> Result<DateChecked, Refusal>
+    ensures { result ≡ winter_checked years date above latest }
 {
-    let date = in_order(misplaced, read)?;
-    let outside = is_outside(al, filiere, date.year, above);
+    let outside = is_outside(years, date.year, above);
     let key = dated_checks(outside, true, date, latest)?;
     Ok(DateChecked {
         year: date.year,
-        place: winter_at(date.month, date.day),
+        place: winter_at(date),
         key,
     })
 }
 
-pub(crate) fn check_points(
-    fields: Fields,
-    last: u64,
-    meter: Meter,
-    al: u64,
-    filiere: u64,
-    latest: u64,
-    codes: &mut [u64; 20],
-) -> Result<DateChecked, Refusal>
-    ensures { EachTagged C fields (λ l. (result ≡ unless_reason (refusal (before_points last (meter_view meter) (history_years al filiere) latest) l) (date_on C l)) × (codes.new ≡ point_row l)) }
+// C and P have a function each: what they share is `check_winter`; the test of 4, the reader, the range and the last date are each tag's own.
+pub(crate) fn check_points(progress: &Progress, fields: Fields) -> Result<RowChecked, Refusal>
+    ensures { EachTagged C fields (λ l. result ≡ unless_reason (refusal (before_points progress.now.last (meter_view progress.now.site.meter) (history_years progress.now.site.al progress.now.site.filiere) progress.now.lasts.c) l) (points_on l)) }
 {
-    let read = read_points(fields, codes);
-    let misplaced = points_misplaced(last, meter);
-    let above = points_outside(codes);
-    check_winter(misplaced, read, above, al, filiere, latest)
+    let read = in_order(points_misplaced(progress), read_points(fields))?;
+    let years = progress.site.history();
+    let above = points_outside(&read.codes);
+    let date = check_winter(years, read.date, above, progress.lasts.c)?;
+    Ok(RowChecked {
+        date,
+        codes: read.codes,
+    })
 }
 
-pub(crate) fn check_profiles(
-    fields: Fields,
-    last: u64,
-    al: u64,
-    filiere: u64,
-    latest: u64,
-    codes: &mut [u64; 20],
-) -> Result<DateChecked, Refusal>
-    ensures { EachTagged P fields (λ l. (result ≡ unless_reason (refusal (before_rising last (history_years al filiere) latest) l) (date_on P l)) × (codes.new ≡ profile_row l)) }
+pub(crate) fn check_profiles(progress: &Progress, fields: Fields) -> Result<RowChecked, Refusal>
+    ensures { EachTagged P fields (λ l. result ≡ unless_reason (refusal (before_rising progress.now.last (history_years progress.now.site.al progress.now.site.filiere) progress.now.lasts.p) l) (profiles_on l)) }
 {
-    let read = read_profiles(fields, codes);
-    let misplaced = is_misplaced(last, Tag::P);
-    let above = profiles_outside(codes);
-    check_winter(misplaced, read, above, al, filiere, latest)
+    let misplaced = is_misplaced(progress.last, Tag::P);
+    let read = in_order(misplaced, read_profiles(fields))?;
+    let years = progress.site.history();
+    let above = profiles_outside(&read.codes);
+    let date = check_winter(years, read.date, above, progress.lasts.p)?;
+    Ok(RowChecked {
+        date,
+        codes: read.codes,
+    })
 }

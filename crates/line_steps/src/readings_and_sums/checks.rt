@@ -4,15 +4,22 @@ ghost use Rattle.calendar.specs.Spans.{history_years};
 ghost use Rattle.meaning.specs.Line.{X, D};
 ghost use Rattle.meaning.specs.Refusals.{refusal};
 ghost use Rattle.refusals.specs.Refusals.{unless_reason};
-ghost use Rattle.line_form.specs.Ranges.{is_reading_outside, is_daily_outside};
 ghost use Rattle.line_checks.specs.Before.{EachTagged, before_rising, before_reading};
-ghost use Rattle.line_steps.specs.ReadingAnswers.{reading_on, daily_on};
+ghost use Rattle.line_steps.specs.ReadingAnswers.{reading_on, daily_on, axis_checked};
 
-use calendar::axis;
-use line_checks::{dated_checks, in_order, is_misplaced, position_at, refuse_if};
-use line_form::{DailyRead, Fields, ReadingRead, Tag, read_daily, read_reading};
+use calendar::Date;
+use line_checks::{dated_checks, in_order, is_misplaced, is_outside, position_at};
+use line_form::{Fields, Tag, read_daily, read_reading};
+use progress::Progress;
 use readings::Kind;
-use refusals::Refusal;
+use refusals::{Refusal, refuse_if};
+
+// The date of an X or D line: the position, and the key, which must rise.
+#[derive(Clone, Copy)]
+pub(crate) struct AxisChecked {
+    pub position: usize,
+    pub key: u64,
+}
 
 // The reading of an X line, and the key of its date.
 #[derive(Clone, Copy)]
@@ -32,63 +39,56 @@ pub(crate) struct DailyChecked {
     pub key: u64,
 }
 
-#[tactic(auto, unfolding(line_form::specs::Ranges::is_reading_outside))]
-fn is_reading_outside(al: u64, filiere: u64, read: ReadingRead) -> bool
-    ensures { result ≡ is_reading_outside (history_years al filiere) read }
-{
-    !axis(al, filiere).contains(read.date.year) || 1_000_000_000_000 < read.index
-}
-
-#[tactic(auto, unfolding(line_form::specs::Ranges::is_daily_outside))]
-fn is_daily_outside(al: u64, filiere: u64, read: DailyRead) -> bool
-    ensures { result ≡ is_daily_outside (history_years al filiere) read }
-{
-    !axis(al, filiere).contains(read.date.year) || 3_145_680 < read.sum
-}
-
-// Checks an X line. 8, 10 and 11 use the last reading's date (`latest`), its index (`previous`) and the number of readings.
-pub(crate) fn check_reading(
-    fields: Fields,
-    last: u64,
-    al: u64,
-    filiere: u64,
+// 6 to 8 of an X or D line on its date: a date of the axis, later than the last of its tag.
+// `above` is the answer of the test of its number, which is 6 too.
+#[tactic(auto, unfolding(crate::specs::ReadingAnswers::axis_checked))]
+fn check_axis(
+    progress: &Progress,
+    date: Date,
+    above: bool,
     latest: u64,
-    previous: u64,
-    readings: u64,
-) -> Result<ReadingChecked, Refusal>
-    ensures { EachTagged X fields (λ l. result ≡ unless_reason (refusal (before_reading last (history_years al filiere) latest previous readings) l) (reading_on (history_years al filiere) l)) }
+) -> Result<AxisChecked, Refusal>
+    ensures { result ≡ axis_checked (history_years progress.now.site.al progress.now.site.filiere) date above latest }
 {
-    let read = in_order(is_misplaced(last, Tag::X), read_reading(fields))?;
-    let date = read.date;
-    let outside = is_reading_outside(al, filiere, read);
+    let site = progress.site;
+    let years = site.axis();
+    let outside = is_outside(years, date.year, above);
     let key = dated_checks(outside, false, date, latest)?;
-    refuse_if(read.index < previous, Refusal::Falling)?;
-    refuse_if(600 <= readings, Refusal::TooMany)?;
-    Ok(ReadingChecked {
-        position: position_at(al, filiere, date.year, date.month, date.day),
-        index: read.index,
-        kind: read.kind,
+    Ok(AxisChecked {
+        position: position_at(site.al, site.filiere, date),
         key,
     })
 }
 
-pub(crate) fn check_daily(
-    fields: Fields,
-    last: u64,
-    al: u64,
-    filiere: u64,
-    latest: u64,
-) -> Result<DailyChecked, Refusal>
-    ensures { EachTagged D fields (λ l. result ≡ unless_reason (refusal (before_rising last (history_years al filiere) latest) l) (daily_on (history_years al filiere) l)) }
+// Checks an X line. 8, 10 and 11 use the last reading's date, its index and the number of readings.
+pub(crate) fn check_reading(progress: &Progress, fields: Fields) -> Result<ReadingChecked, Refusal>
+    ensures { EachTagged X fields (λ l. result ≡ unless_reason (refusal (before_reading progress.now.last (history_years progress.now.site.al progress.now.site.filiere) progress.now.lasts.x progress.now.last_index progress.now.readings) l) (reading_on (history_years progress.now.site.al progress.now.site.filiere) l)) }
 {
-    let read = in_order(is_misplaced(last, Tag::D), read_daily(fields))?;
-    let date = read.date;
-    let outside = is_daily_outside(al, filiere, read);
-    let key = dated_checks(outside, false, date, latest)?;
+    let misplaced = is_misplaced(progress.last, Tag::X);
+    let read = in_order(misplaced, read_reading(fields))?;
+    let above = 1_000_000_000_000 < read.index;
+    let date = check_axis(progress, read.date, above, progress.lasts.x)?;
+    refuse_if(read.index < progress.last_index, Refusal::Falling)?;
+    refuse_if(600 <= progress.readings, Refusal::TooMany)?;
+    Ok(ReadingChecked {
+        position: date.position,
+        index: read.index,
+        kind: read.kind,
+        key: date.key,
+    })
+}
+
+pub(crate) fn check_daily(progress: &Progress, fields: Fields) -> Result<DailyChecked, Refusal>
+    ensures { EachTagged D fields (λ l. result ≡ unless_reason (refusal (before_rising progress.now.last (history_years progress.now.site.al progress.now.site.filiere) progress.now.lasts.d) l) (daily_on (history_years progress.now.site.al progress.now.site.filiere) l)) }
+{
+    let misplaced = is_misplaced(progress.last, Tag::D);
+    let read = in_order(misplaced, read_daily(fields))?;
+    let above = 3_145_680 < read.sum;
+    let date = check_axis(progress, read.date, above, progress.lasts.d)?;
     Ok(DailyChecked {
-        year: date.year,
-        position: position_at(al, filiere, date.year, date.month, date.day),
+        year: read.date.year,
+        position: date.position,
         sum: read.sum,
-        key,
+        key: date.key,
     })
 }

@@ -7,33 +7,35 @@ ghost use Rattle.line_form.specs.Ranges.{is_site_outside};
 ghost use Rattle.line_form.specs.Views.{site_repr};
 ghost use Rattle.line_checks.specs.Before.{EachTagged, before_first, before_end};
 
-use line_checks::{in_order, is_misplaced, is_within, refuse_if};
+use line_checks::{in_order, is_misplaced};
 use line_form::{Fields, NO_TAG, Site, Tag, is_too_soon, read_count, read_site};
-use refusals::Refusal;
+use progress::Progress;
+use refusals::{Refusal, refuse_if};
 
-#[tactic(auto, unfolding(line_form::specs::Ranges::is_site_outside))]
+#[tactic(auto, unfolding(line_form::specs::Ranges::is_site_outside, meaning::specs::Record::is_within))]
 fn is_site_outside(site: Site) -> bool
     ensures { result ≡ is_site_outside site }
 {
-    !is_within(site.al, 2021, 2026)
-        || !is_within(site.filiere, 1, 11)
-        || !is_within(site.ps, 1, 100_000_000)
+    !(2021..=2026).contains(&site.al)
+        || !(1..=11).contains(&site.filiere)
+        || !(1..=100_000_000).contains(&site.ps)
 }
 
 // The site of an S line.
-pub(crate) fn check_site(fields: Fields, last: u64) -> Result<Site, Refusal>
-    ensures { EachTagged S fields (λ l. result ≡ unless_reason (refusal (before_first last) l) (site_repr (site_on l))) }
+pub(crate) fn check_site(progress: &Progress, fields: Fields) -> Result<Site, Refusal>
+    ensures { EachTagged S fields (λ l. result ≡ unless_reason (refusal (before_first progress.now.last) l) (site_repr (site_on l))) }
 {
-    let site = in_order(last != NO_TAG, read_site(fields))?;
+    let site = in_order(progress.last != NO_TAG, read_site(fields))?;
     refuse_if(is_site_outside(site), Refusal::Outside)?;
     refuse_if(is_too_soon(site.al, site.filiere), Refusal::TooSoon)?;
     Ok(site)
 }
 
-pub(crate) fn check_end(fields: Fields, last: u64, count: u64) -> Result<(), Refusal>
-    ensures { EachTagged E fields (λ l. result ≡ unless_reason (refusal (before_end last count) l) tt) }
+pub(crate) fn check_end(progress: &Progress, count: u64, fields: Fields) -> Result<(), Refusal>
+    ensures { EachTagged E fields (λ l. result ≡ unless_reason (refusal (before_end progress.now.last count) l) tt) }
 {
-    let lines = in_order(is_misplaced(last, Tag::E), read_count(fields))?;
+    let misplaced = is_misplaced(progress.last, Tag::E);
+    let lines = in_order(misplaced, read_count(fields))?;
     refuse_if(9999 < lines, Refusal::Outside)?;
     refuse_if(lines != count, Refusal::Miscounted)
 }

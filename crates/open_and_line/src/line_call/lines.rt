@@ -13,10 +13,11 @@ use answers::{Lengths, line_refusal};
 use progress::{Progress, State};
 
 // The outcome of a line, by the parts of a record and the lengths of readings and curve. 1 and 13 come first, and leave the record.
+// Document 01 has the lent blocks as further parameters, and the record comes by its parts, since its type stands with its calls, above.
 pub fn apply_line(
     state: State,
     count: u64,
-    progress: Progress,
+    progress: &mut Progress,
     line: &[u8],
     near: &mut [u32],
     far: &mut [u32],
@@ -25,7 +26,7 @@ pub fn apply_line(
     readings: usize,
     curve: usize,
 ) -> LineOutcome
-    ensures { EachLent readings curve (λ rs c. line_outcome_view result (lent_blocks near.new far.new slots.new daily.new (readings_view (with_reading rs result.reading)) c) ≡ line_of (rec_of state count progress) line.now (lent_blocks near.old far.old slots.old daily.old (readings_view rs) c)) }
+    ensures { EachLent readings curve (λ rs c. line_outcome_view result progress.new (lent_blocks near.new far.new slots.new daily.new (readings_view (with_reading rs result.reading)) c) ≡ line_of (rec_of state count progress.old) line.now (lent_blocks near.old far.old slots.old daily.old (readings_view rs) c)) }
 {
     let lengths = Lengths {
         near: near.len(),
@@ -36,11 +37,11 @@ pub fn apply_line(
         curve,
     };
     match line_refusal(state, count, progress, lengths) {
-        Err(refusal) => refused(state, count, progress, refusal),
+        Err(refusal) => refused(state, count, refusal),
         Ok(()) => {
             let n = progress.readings as usize;
-            let step = take_line(progress, count, line, near, far, slots, daily);
-            counted(count, progress, step, n)
+            let taken = take_line(progress, count, line, near, far, slots, daily);
+            counted(count, taken, n)
         }
     }
 }

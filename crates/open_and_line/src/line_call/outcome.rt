@@ -5,8 +5,8 @@ ghost use Rattle.std.specs.Prelude.{◌≡◌, ◌≤◌};
 ghost use Rattle.refusals.specs.Refusals.{refusal_number};
 ghost use Rattle.open_and_line.specs.LineOutcomes.{refused_of, accepted_of, line_outcome_of, with_reading};
 
-use answers::Answer;
-use progress::{Progress, State, Step};
+use answers::{Answer, answer_to};
+use progress::State;
 use readings::{Reading, put};
 use refusals::Refusal;
 
@@ -22,10 +22,9 @@ pub struct LineOutcome {
     // the reading to store, which only an accepted X line has
     pub reading: Option<PlacedReading>,
     pub answer: Answer,
-    // the record by its parts
+    // the record's state and count; its progress is lent
     pub state: State,
     pub count: u64,
-    pub progress: Progress,
 }
 
 impl LineOutcome {
@@ -40,46 +39,38 @@ impl LineOutcome {
 }
 
 // The outcome of a refusal: the record with this state and count, and no reading.
-pub(crate) fn refused(state: State, count: u64, progress: Progress, refusal: Refusal) -> LineOutcome
-    ensures { result ≡ refused_of state count progress (refusal_number refusal) }
+#[tactic(auto, unfolding(answers::specs::Views::answer_to))]
+pub(crate) fn refused(state: State, count: u64, refusal: Refusal) -> LineOutcome
+    ensures { result ≡ refused_of state count (refusal_number refusal) }
 {
-    let number = u64::from(refusal);
     LineOutcome {
-        answer: Answer::Refused { number, count },
+        answer: answer_to(Err(refusal), count),
         state,
         count,
-        progress,
         reading: None,
     }
 }
 
 // The outcome of an accepted line that is the count-th: its reading goes to the next place of the list, which holds n.
-fn accepted(count: u64, step: Step, n: usize) -> LineOutcome
-    ensures { result ≡ accepted_of count step n }
+fn accepted(count: u64, reading: Option<Reading>, n: usize) -> LineOutcome
+    ensures { result ≡ accepted_of count reading n }
 {
-    let reading = step.reading;
     LineOutcome {
         answer: Answer::Accepted,
         state: State::Open,
         count,
-        progress: step.progress,
         reading: reading.map(|reading| PlacedReading { place: n, reading }),
     }
 }
 
-// The outcome of a line on an open record of `taken` lines and n readings: the line is counted, and 2 to 12 mark the record refused.
-pub(crate) fn counted(
-    taken: u64,
-    progress: Progress,
-    step: Result<Step, Refusal>,
-    n: usize,
-) -> LineOutcome
-    requires { taken ≤ 9999 }
-    ensures { result ≡ line_outcome_of taken progress step n }
+// The outcome of a line on an open record of `lines` lines and n readings: the line is counted, and 2 to 12 mark the record refused.
+pub(crate) fn counted(lines: u64, taken: Result<Option<Reading>, Refusal>, n: usize) -> LineOutcome
+    requires { lines ≤ 9999 }
+    ensures { result ≡ line_outcome_of lines taken n }
 {
-    let count = taken + 1;
-    match step {
-        Ok(step) => accepted(count, step, n),
-        Err(refusal) => refused(State::Refused, count, progress, refusal),
+    let count = lines + 1;
+    match taken {
+        Ok(reading) => accepted(count, reading, n),
+        Err(refusal) => refused(State::Refused, count, refusal),
     }
 }

@@ -18,7 +18,7 @@ use Rattle.points.proofs.point_of.Goals as goal
 
 -- ---- the cases with the same kind of source
 profiled-source : (b : SiteFactors) (d : Day) (x : Case) (k w h : ℕ) → (x ≡ T1) ⊎ (x ≡ P)
-    → own (profiled_on d.slots d.energies d.totals k w h) ≡ source_in b d (case_view x) k w h
+    → own (profiled_on d.slots d.years k w h) ≡ source_in b d (case_view x) k w h
 unfolding source_in
 profiled-source b d x k w h e = ⊎_elim (λ q. rw q) (λ q. rw q) e
 
@@ -41,19 +41,18 @@ unfolding source_in read_in
 returns-in-M c = rw c.in-M.is (rw c.code.ensures at c.measured.ensures)
 
 pub returns-in-T1 : goal.returns-in-T1
-unfolding profiled_on
 returns-in-T1 c =
     let a = c.args in
     subst (λ (x : Source). PlacePointIs x c.profiled.result)
     (profiled-source a.day.now.site.now (day_view a.day.now) a.target.case a.target.k a.day.now.w a.h c.in-T1.is)
-    (rw c.profile.ensures.is at c.profiled.ensures)
+    c.profiled.ensures
 
 pub returns-in-T2 : goal.returns-in-T2
 unfolding source_in curve_donors_in
 returns-in-T2 c =
     let s = c.args.day.now.site.now in
-    let d = c.args.day.now in
-    rw c.in-T2.is (c.rebuilt_point.ensures (curve_origin s.al s.first d.near.now d.far.now d.curves.now d.w c.args.h) (λ k r l p. search rules))
+    let d = day_view c.args.day.now in
+    rw c.in-T2.is (c.rebuilt_point.ensures (curve_origin s.al s.first d.near d.far d.curves c.args.day.now.w c.args.h) (λ k r l p. search rules))
 
 pub returns-in-T3 : goal.returns-in-T3
 unfolding index_donors_in
@@ -62,7 +61,7 @@ returns-in-T3 c =
     let d = a.day.now in
     subst (λ (x : Source). PlacePointIs x c.rebuilt_point-in-T3.result)
     (index-source a.day.now.site.now (day_view d) a.target.case a.target.k d.w a.h c.in-T3.is)
-    (c.rebuilt_point-in-T3.ensures (index_origin d.slots.now d.years.now.energies d.years.now.totals d.years.now.is_donor d.w a.h) (λ k r l p. search rules))
+    (c.rebuilt_point-in-T3.ensures (index_origin (day_view d).slots (day_view d).years d.w a.h) (λ k r l p. search rules))
 
 pub returns-in-T4 : goal.returns-in-T4
 unfolding default_in
@@ -70,4 +69,4 @@ returns-in-T4 c =
     let a = c.args in
     subst (λ (x : Source). PlacePointIs x c.by_default.result)
     (default_source a.day.now.site.now (day_view a.day.now) a.target.case a.target.k a.day.now.w a.h c.in-T4.is)
-    (rw c.profile-in-T4.ensures.is at c.by_default.ensures)
+    (rw c.profile.ensures.is at c.by_default.ensures)

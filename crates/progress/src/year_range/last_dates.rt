@@ -14,7 +14,7 @@ fn is_winter_place(place: usize) -> bool
     day_at(place).is_some_and(|day| is_winter(day.month))
 }
 
-// No date, or a date of the span; a winter date where the tag takes no other.
+// No date, or a date of the span; a winter date where the tag takes no other (`winter`, which is data of the tag and no choice of steps).
 #[tactic(auto, unfolding(meaning::specs::Record::date_fits))]
 pub(crate) fn date_fits(span: Years, winter: bool, date: u64) -> bool
     ensures { result ≡ date_fits span winter date }

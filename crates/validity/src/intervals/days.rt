@@ -4,7 +4,7 @@ ghost use Rattle.validity.specs.Columns.{Rising, NonDecreasing};
 ghost use Rattle.validity.specs.Days.{energies_of, totals_of};
 ghost use Rattle.validity.specs.Steps.{first_place, filled};
 
-use crate::columns::{interval_count, position_of};
+use crate::columns::Counted;
 
 // The number of places of the axis.
 const AXIS: usize = 4392;
@@ -17,7 +17,7 @@ fn total(days: &[u32]) -> u64
     days.iter().map(|day| u64::from(*day)).sum()
 }
 
-// Writes v at the places from a to the one before b.
+// Writes v at the places from a to the one before b. A function of its own, since its four calls share one proof.
 fn fill(places: &mut [u64; 4392], a: usize, b: usize, v: u64)
     requires { (a ≤ b) × (b ≤ 4392) × (length places.old ≡ 4392) }
     ensures { places.new ≡ filled places.old a b v }
@@ -25,45 +25,35 @@ fn fill(places: &mut [u64; 4392], a: usize, b: usize, v: u64)
     places[a..b].fill(v);
 }
 
-// The position of the first reading; after the axis where there is no reading.
-#[tactic(auto, unfolding(crate::specs::Steps::first_place))]
-fn first_place(positions: &[u32], n: usize) -> usize
-    requires { n ≤ length positions.now }
-    ensures { result ≡ first_place positions.now n }
-{
-    if n == 0 {
-        AXIS
-    } else {
-        position_of(positions, 0)
+impl Counted<'_> {
+    // The position of the first reading; after the axis where there is no reading.
+    #[tactic(auto, unfolding(crate::specs::Steps::first_place))]
+    fn first_place(&self) -> usize
+        ensures { result ≡ first_place self.now.positions.now self.now.n }
+    {
+        if self.n == 0 { AXIS } else { self.position(0) }
     }
-}
 
-// Fills in, at each position, the energy of the interval around it, which is the difference of its two readings, and its total of daily sums; 0 where
-// there is no interval. The readings come as columns, n places of each: the core runs over plain columns.
-pub fn by_position(
-    positions: &[u32],
-    indexes: &[u64],
-    daily: &[u32],
-    n: usize,
-    energies: &mut [u64; 4392],
-    totals: &mut [u64; 4392],
-)
-    requires rising { Rising positions.now n × NonDecreasing indexes.now n }
-    requires daily_len { (length daily.now ≡ 4392) × (length energies.old ≡ 4392) × (length totals.old ≡ 4392) }
-    ensures energies { energies.new ≡ energies_of positions.now indexes.now n }
-    ensures totals { totals.new ≡ totals_of positions.now daily.now n }
-{
-    let mut at = first_place(positions, n);
-    fill(energies, 0, at, 0);
-    fill(totals, 0, at, 0);
-    for i in 0..interval_count(n) {
-        let next = position_of(positions, i + 1);
-        let energy = indexes[i + 1] - indexes[i];
-        let total = total(&daily[at..next]);
-        fill(energies, at, next, energy);
-        fill(totals, at, next, total);
-        at = next;
+    // Fills in, at each position, the energy of the interval around it, which is the difference of its two readings, and its total of daily sums; 0
+    // where there is no interval.
+    pub fn by_position(&self, daily: &[u32], energies: &mut [u64; 4392], totals: &mut [u64; 4392])
+        requires rising { Rising self.now.positions.now self.now.n × NonDecreasing self.now.indexes.now self.now.n }
+        requires daily_len { (length daily.now ≡ 4392) × (length energies.old ≡ 4392) × (length totals.old ≡ 4392) }
+        ensures energies { energies.new ≡ energies_of self.now.positions.now self.now.indexes.now self.now.n }
+        ensures totals { totals.new ≡ totals_of self.now.positions.now daily.now self.now.n }
+    {
+        let mut at = self.first_place();
+        fill(energies, 0, at, 0);
+        fill(totals, 0, at, 0);
+        for i in 0..self.interval_count() {
+            let next = self.position(i + 1);
+            let energy = self.index(i + 1) - self.index(i);
+            let total = total(&daily[at..next]);
+            fill(energies, at, next, energy);
+            fill(totals, at, next, total);
+            at = next;
+        }
+        fill(energies, at, AXIS, 0);
+        fill(totals, at, AXIS, 0);
     }
-    fill(energies, at, AXIS, 0);
-    fill(totals, at, AXIS, 0);
 }

@@ -27,18 +27,18 @@ row al filiere year axis e a =
     let n = ap (λ (s : Years). s.count) e in
     (span.0, omega (arith, (axis_range al filiere).short))
 
-on_axis : (c : Else-not-is_date) → (c.axis-years.result.first ≤ c.args.year) × (c.args.year < c.axis-years.result.first + 12)
+on_axis : (c : Else-not-is_date) → (c.axis-years.result.first ≤ c.args.date.year) × (c.args.date.year < c.axis-years.result.first + 12)
 on_axis c = row _ _ _ _ c.axis-years.ensures (sym c.contains.ensures ∙ c.if-not-contains.false)
 
-pub overflow_sub-row : goal.overflow_sub-row
-overflow_sub-row c = (on_axis c).0
+pub row-row-requires : goal.row-row-requires
+row-row-requires c = (on_axis c).0
 
 pub overflow_mul-result : goal.overflow_mul-result
-overflow_mul-result c = omega (arith, (on_axis c).0, (on_axis c).1)
+overflow_mul-result c = omega (arith, (on_axis c.before).0, (on_axis c.before).1)
 
 pub overflow_add-result : goal.overflow_add-result
 overflow_add-result c =
-    omega (arith, (on_axis c.before.before.before).0, (on_axis c.before.before.before).1, place_below _ _ _ (sym c.date_place.ensures ∙ c.in_ok-date_place.was))
+    omega (arith, (on_axis c.before.before.before.before).0, (on_axis c.before.before.before.before).1, place_below _ _ _ (sym c.date_place.ensures ∙ c.in_ok-date_place.was))
 
 pub returns-in_err-date_place : goal.returns-in_err-date_place
 returns-in_err-date_place c =
@@ -46,5 +46,5 @@ returns-in_err-date_place c =
 
 pub returns : goal.returns
 returns c =
-    rw (← c.axis-years.ensures)
+    rw (← c.axis-years.ensures, c.row-row.ensures)
     (sym (position_by _ _ _ _ _ (sym c.contains.ensures ∙ c.if-not-contains.false) (sym c.is_date.ensures ∙ c.if-not-is_date.false) (sym c.date_place.ensures ∙ c.in_ok-date_place.was)))

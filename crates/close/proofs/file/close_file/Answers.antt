@@ -1,58 +1,50 @@
-use mathlib.Core.Path.{◌≡◌, refl}
+use mathlib.Core.Path.{◌≡◌, refl, sym, ◌∙◌}
 use Rattle.std.specs.Prelude.{Err}
 use Rattle.std.proofs.Common.{rules}
 use native.Mathlib.Omega.{arith}
-use Rattle.close.proofs.FileFacts.{rise, climb, kinds_held, daily_size_lem, curve_size_lem, site_fits_lem}
-use Rattle.close.proofs.CloseSteps.{few_years, found_by, lists, stops, exceeds, whole, some_counted, reported}
+use Rattle.close.proofs.FileFacts.{daily_size_lem, curve_size_lem, site_fits_lem}
+use Rattle.close.proofs.CloseSteps.{few_years, found_by, rising_by, lists, stops, exceeds, whole, some_counted, reported}
 use Rattle.close.proofs.file.close_file.Goals as goal
 
 pub valid_years-valid-requires : goal.valid_years-valid-requires
-valid_years-valid-requires c =
-    let e = few_years c.requires c.history-history.ensures in
-    (e.0, e.1, (rise c.requires).held, kinds_held c.requires)
-
-pub cases_of-cases-requires : goal.cases_of-cases-requires
-cases_of-cases-requires c = (few_years c.requires c.history-history.ensures).1
-
-pub default_years-defaults-requires : goal.default_years-defaults-requires
-default_years-defaults-requires c = (few_years c.requires c.history-history.ensures).1
+valid_years-valid-requires c = (few_years c.requires c.history-history.ensures).0
 
 pub by_position-requires : goal.by_position-requires
-by_position-requires c = record { rising = (rise c.requires, climb c.requires); daily_len = (daily_size_lem c.requires, refl, refl) }
+by_position-requires c = record { rising = rising_by c.requires c.of-readings.ensures; daily_len = (daily_size_lem c.requires, refl, refl) }
 
-pub data_refusal-requires : goal.data_refusal-requires
-data_refusal-requires c =
+pub invariant_of-profiled : goal.invariant_of-profiled
+invariant_of-profiled c =
     let e = few_years c.requires c.history-history.ensures in
-    (omega (arith, e.0), e.1, rise c.requires)
+    record { few = (omega (arith, e.0), e.1); rising = (rising_by c.requires c.of-readings.ensures).0 }
 
 pub returns-in_err-data_refusal : goal.returns-in_err-data_refusal
 returns-in_err-data_refusal c =
-    let g = found_by c.requires c.history-history.ensures c.valid_years-valid.ensures c.cases_of-cases.ensures c.default_years-defaults.ensures c.by_position.ensures.energies c.by_position.ensures.totals in
+    let g = found_by c.requires c.of-readings.ensures c.history-history.ensures c.valid_years-valid.ensures c.cases_of-cases.ensures c.default_years-defaults.ensures c.by_position.ensures.energies c.by_position.ensures.totals in
     let e : c.from_residual.result ≡ Err c.in_err-data_refusal.field-0.0 = search rules in
-    rw e (stops c.requires g c.args.curve.now c.data_refusal.ensures c.in_err-data_refusal.was)
+    rw e (stops c.requires g c.args.curve.now c.of-readings.ensures c.data_refusal.ensures c.in_err-data_refusal.was)
 
 pub fill-f-requires : goal.fill-f-requires
 fill-f-requires c =
-    let g = found_by c.requires c.history-history.ensures c.valid_years-valid.ensures c.cases_of-cases.ensures c.default_years-defaults.ensures c.by_position.ensures.energies c.by_position.ensures.totals in
+    let g = found_by c.requires c.of-readings.ensures c.history-history.ensures c.valid_years-valid.ensures c.cases_of-cases.ensures c.default_years-defaults.ensures c.by_position.ensures.energies c.by_position.ensures.totals in
     record { site_fits = (site_fits_lem c.requires, lists c.requires g); curve_value = refl }
-
-pub store_curve-requires : goal.store_curve-requires
-store_curve-requires c =
-    let g = found_by c.requires c.history-history.ensures c.valid_years-valid.ensures c.cases_of-cases.ensures c.default_years-defaults.ensures c.by_position.ensures.energies c.by_position.ensures.totals in
-    (whole c.requires g c.args.curve.now c.data_refusal.ensures c.in_ok-data_refusal.was c.fill-f.ensures, curve_size_lem c.requires)
 
 pub returns-then-f : goal.returns-then-f
 returns-then-f c =
-    let g = found_by c.requires c.history-history.ensures c.valid_years-valid.ensures c.cases_of-cases.ensures c.default_years-defaults.ensures c.by_position.ensures.energies c.by_position.ensures.totals in
-    exceeds c.requires g c.args.curve.now c.data_refusal.ensures c.in_ok-data_refusal.was c.fill-f.ensures c.store_curve.ensures c.if-f.true
+    let g = found_by c.requires c.of-readings.ensures c.history-history.ensures c.valid_years-valid.ensures c.cases_of-cases.ensures c.default_years-defaults.ensures c.by_position.ensures.energies c.by_position.ensures.totals in
+    exceeds c.requires g c.args.curve.now c.of-readings.ensures c.data_refusal.ensures c.in_ok-data_refusal.was c.fill-f.ensures c.if-f.true
+
+pub copy_from_slice-requires : goal.copy_from_slice-requires
+copy_from_slice-requires c =
+    let g = found_by c.requires c.of-readings.ensures c.history-history.ensures c.valid_years-valid.ensures c.cases_of-cases.ensures c.default_years-defaults.ensures c.by_position.ensures.energies c.by_position.ensures.totals in
+    curve_size_lem c.requires ∙ sym (whole c.requires g c.args.curve.now c.of-readings.ensures c.data_refusal.ensures c.in_ok-data_refusal.was c.fill-f.ensures)
 
 pub reported-requires : goal.reported-requires
 reported-requires c =
-    let g = found_by c.requires c.history-history.ensures c.valid_years-valid.ensures c.cases_of-cases.ensures c.default_years-defaults.ensures c.by_position.ensures.energies c.by_position.ensures.totals in
-    let n = some_counted c.requires g c.args.curve.now c.data_refusal.ensures c.in_ok-data_refusal.was c.fill-f.ensures c.if-f.false in
-    record { first_bound = few_years c.requires c.history-history.ensures; counted_nonzero = (n, c.fill-f.ensures.counted, c.fill-f.ensures.sum) }
+    let g = found_by c.requires c.of-readings.ensures c.history-history.ensures c.valid_years-valid.ensures c.cases_of-cases.ensures c.default_years-defaults.ensures c.by_position.ensures.energies c.by_position.ensures.totals in
+    let n = some_counted c.requires g c.args.curve.now c.of-readings.ensures c.data_refusal.ensures c.in_ok-data_refusal.was c.fill-f.ensures c.if-f.false in
+    record { first_bound = (few_years c.requires c.history-history.ensures).0; counted_nonzero = (n, c.fill-f.ensures.counted, c.fill-f.ensures.sum) }
 
 pub returns : goal.returns
 returns c =
-    let g = found_by c.requires c.history-history.ensures c.valid_years-valid.ensures c.cases_of-cases.ensures c.default_years-defaults.ensures c.by_position.ensures.energies c.by_position.ensures.totals in
-    reported c.requires g c.args.curve.now c.data_refusal.ensures c.in_ok-data_refusal.was c.fill-f.ensures c.if-f.false c.reported.ensures c.store_curve.ensures
+    let g = found_by c.requires c.of-readings.ensures c.history-history.ensures c.valid_years-valid.ensures c.cases_of-cases.ensures c.default_years-defaults.ensures c.by_position.ensures.energies c.by_position.ensures.totals in
+    reported c.requires g c.args.curve.now c.of-readings.ensures c.data_refusal.ensures c.in_ok-data_refusal.was c.fill-f.ensures c.if-f.false c.reported.ensures c.copy_from_slice.ensures.after

@@ -1,24 +1,17 @@
+use mathlib.Core.Bool.{cond}
 use Prim.Native.Nat.{◌+◌}
-use native.Mathlib.Omega.{arith}
+use lib.Dec.{ltb}
 use lib.ListN.{get_or}
-use Rattle.history.proofs.YearTables.{none_yet, one_more_lem, at_end}
+use Rattle.std.proofs.Common.{rules, tests}
+use Rattle.lists.proofs.Chains.{made_by}
 use Rattle.history.specs.declared.cases.Case.TheVariants.{M}
+use Rattle.history.specs.Years.{by_history}
 use Rattle.close.specs.FileOutcomes.{no_year}
 use Rattle.close.specs.ReportRows.{row_in, rows_in}
 use Rattle.close.proofs.report.rows.Goals as goal
 
-pub loop-k-init : goal.loop-k-init
-loop-k-init c = none_yet no_year _
-
-pub loop-k-preserved : goal.loop-k-preserved
-loop-k-preserved c =
-    let l = c.loop-k in
-    let a = c.args in
-    one_more_lem no_year (λ j. row_in (a.history.first + j) (get_or a.cases j M) (get_or a.present j 0)) l.k c.row.result l.years (omega arith) c.row.ensures l.invariant
-
 pub returns : goal.returns
-unfolding rows_in
+unfolding rows_in by_history row_in
 returns c =
-    let l = c.loop-k in
     let a = c.args in
-    at_end no_year (λ j. row_in (a.history.first + j) (get_or a.cases j M) (get_or a.present j 0)) l.k a.history.count l.years (omega arith) (omega arith) l.invariant
+    made_by _ (λ k. cond (ltb k a.history.count) (row_in (a.history.first + k) (get_or a.cases k M) (get_or a.present k 0)) no_year) no_year _ 10 _ c.from_fn.ensures.items (λ x b r q k. search (rules, tests))

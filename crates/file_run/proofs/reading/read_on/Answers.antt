@@ -13,7 +13,7 @@ returns-then-bytes-eq0 g c =
 
 pub loop-preserved : goal.loop-preserved
 loop-preserved g c =
-    (omega (arith, c.loop.invariant.0), going_next _ _ _ _ _ c.loop.invariant.1 _ _ _ c.feed-fed.ensures c.in_ok-bytes.ensures.bytes.0 (omega (arith, length-take c.in_ok-bytes.bytes c.read_piece.new.buf, c.in_ok-bytes.ensures.bound, c.if-bytes-eq0.false)))
+    (omega (arith, c.loop.invariant.0), going_next _ _ _ _ _ c.loop.invariant.1 _ _ _ c.feed.ensures c.in_ok-bytes.ensures.bytes.0 (omega (arith, length-take c.in_ok-bytes.bytes c.read_piece.new.buf, c.in_ok-bytes.ensures.bound, c.if-bytes-eq0.false)))
 
 pub returns-after-loop : goal.returns-after-loop
 returns-after-loop g c = used_up _ _ _ _ _ c.loop.invariant.1 (omega (arith, c.loop-test.false))
@@ -21,5 +21,5 @@ returns-after-loop g c = used_up _ _ _ _ _ c.loop.invariant.1 (omega (arith, c.l
 pub returns-then-is_final : goal.returns-then-is_final
 returns-then-is_final g c =
     at_answer _ _ _ _ _
-    (going_next _ _ _ _ _ c.loop.invariant.1 _ _ _ c.feed-fed.ensures c.in_ok-bytes.ensures.bytes.0 (omega (arith, length-take c.in_ok-bytes.bytes c.read_piece.new.buf, c.in_ok-bytes.ensures.bound, c.if-bytes-eq0.false)))
+    (going_next _ _ _ _ _ c.loop.invariant.1 _ _ _ c.feed.ensures c.in_ok-bytes.ensures.bytes.0 (omega (arith, length-take c.in_ok-bytes.bytes c.read_piece.new.buf, c.in_ok-bytes.ensures.bound, c.if-bytes-eq0.false)))
     (sym c.is_final.ensures ∙ c.if-is_final.true)

@@ -8,5 +8,5 @@ use Rattle.file_run.proofs.reading.read_on.Given as goal
 abbrev pub invariant-loop : goal.invariant-loop
 invariant-loop g l =
     (length l.buf ≡ 65536)
-    × Going (g.R.Read.remaining l.initial.reader) (g.R.Read.remaining l.reader) (run_view l.initial.fed.run (lent_blocks l.initial.near l.initial.far l.initial.slots l.initial.daily (readings_view l.initial.fed.readings) l.curve))
-    (run_view l.fed.run (lent_blocks l.near l.far l.slots l.daily (readings_view l.fed.readings) l.curve)) l.counter
+    × Going (g.R.Read.remaining l.initial.reader) (g.R.Read.remaining l.reader) (run_view l.initial.own_run.run (lent_blocks l.initial.near l.initial.far l.initial.slots l.initial.daily (readings_view l.initial.own_run.readings) l.curve))
+    (run_view l.own_run.run (lent_blocks l.near l.far l.slots l.daily (readings_view l.own_run.readings) l.curve)) l.counter

@@ -9,7 +9,7 @@ use Rattle.std.proofs.lemmas.Iterator.Consumers.{sum_from_yields_List, fits_from
 use Rattle.lists.specs.Lists.{range, sum}
 use Rattle.lists.proofs.Blocks.{map_range}
 use Rattle.lists.proofs.Laws.{length_tab}
-use Rattle.lists.proofs.Loops.{sum_most}
+use Rattle.lists.proofs.Sums.{sum_most}
 use Rattle.lists.proofs.Chains.{front_listed, sum_listed}
 use Rattle.history.specs.Fits.{AtMost}
 use Rattle.history.specs.Years.{cas_sum}

@@ -10,5 +10,5 @@ pub returns : goal.returns
 unfolding valid_curves by_history valid_curve_at is_broken
 returns c =
     let a = c.args in
-    made_by _ (λ k. cond (ltb k a.history.count) (valid_curve_at a.al a.history.first a.near.now a.far.now a.breaks k) false) false _ 10 _ c.from_fn.ensures.items
+    made_by _ (λ k. cond (ltb k a.history.count) (valid_curve_at a.al a.history.first a.blocks.now.near.now a.blocks.now.far.now a.breaks k) false) false _ 10 _ c.from_fn.ensures.items
     (λ x b r q k. search (rules, tests))

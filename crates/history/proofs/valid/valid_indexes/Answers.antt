@@ -10,5 +10,5 @@ pub returns : goal.returns
 unfolding valid_indexes by_history valid_index_at is_broken
 returns c =
     let a = c.args in
-    made_by _ (λ k. cond (ltb k a.years) (valid_index_at a.positions.now a.kinds.now a.n a.breaks k) false) false _ 10 _ c.from_fn.ensures.items
+    made_by _ (λ k. cond (ltb k a.years) (valid_index_at a.readings.now.positions.now a.readings.now.kinds.now a.readings.now.n a.breaks k) false) false _ 10 _ c.from_fn.ensures.items
     (λ x b r q k. search (rules, tests))

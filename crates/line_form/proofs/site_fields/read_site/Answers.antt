@@ -1,7 +1,5 @@
-use mathlib.Core.Path.{ap, sym, ◌∙◌}
+use mathlib.Core.Path.{sym, ◌∙◌}
 use native.Mathlib.Omega.{arith}
-use Rattle.meaning.specs.Line.{meter_of_letter}
-use Rattle.line_form.specs.Reads.{meter_where}
 use Rattle.line_form.proofs.Readers.{number_here, meter_here, edition_here, site_read}
 use Rattle.line_form.proofs.site_fields.read_site.Goals as goal
 
@@ -14,11 +12,14 @@ returns-in_err-al c l w = rw (c.from_residual.ensures, site_read l, sym (edition
 pub returns-in_err-filiere : goal.returns-in_err-filiere
 returns-in_err-filiere c l w = rw (c.from_residual-in_err-filiere.ensures, site_read l, sym (edition_here c.args.fields l w _) ∙ sym c.is_edition.ensures ∙ c.if-not-is_edition.false, sym (number_here c.args.fields l w _ 2 (omega arith)) ∙ sym c.number_of.ensures ∙ c.in_ok-al.was, sym (number_here c.args.fields l w _ 3 (omega arith)) ∙ sym c.number_of-2.ensures ∙ c.in_err-filiere.was)
 
+pub returns-in_err-byte_of : goal.returns-in_err-byte_of
+returns-in_err-byte_of c l w = rw (c.from_residual-in_err-byte_of.ensures, site_read l, sym (edition_here c.args.fields l w _) ∙ sym c.is_edition.ensures ∙ c.if-not-is_edition.false, sym (number_here c.args.fields l w _ 2 (omega arith)) ∙ sym c.number_of.ensures ∙ c.in_ok-al.was, sym (number_here c.args.fields l w _ 3 (omega arith)) ∙ sym c.number_of-2.ensures ∙ c.in_ok-filiere.was, meter_here c.args.fields l w _ _ c.byte_of.ensures, c.in_err-byte_of.was)
+
 pub returns-in_err-meter : goal.returns-in_err-meter
-returns-in_err-meter c l w = rw (c.from_residual-in_err-meter.ensures, site_read l, sym (edition_here c.args.fields l w _) ∙ sym c.is_edition.ensures ∙ c.if-not-is_edition.false, sym (number_here c.args.fields l w _ 2 (omega arith)) ∙ sym c.number_of.ensures ∙ c.in_ok-al.was, sym (number_here c.args.fields l w _ 3 (omega arith)) ∙ sym c.number_of-2.ensures ∙ c.in_ok-filiere.was, sym (ap meter_where (ap meter_of_letter c.byte_of.ensures ∙ meter_here c.args.fields l w _)) ∙ sym c.meter_of.ensures ∙ c.in_err-meter.was)
+returns-in_err-meter c l w = rw (c.from_residual-in_err-meter.ensures, site_read l, sym (edition_here c.args.fields l w _) ∙ sym c.is_edition.ensures ∙ c.if-not-is_edition.false, sym (number_here c.args.fields l w _ 2 (omega arith)) ∙ sym c.number_of.ensures ∙ c.in_ok-al.was, sym (number_here c.args.fields l w _ 3 (omega arith)) ∙ sym c.number_of-2.ensures ∙ c.in_ok-filiere.was, meter_here c.args.fields l w _ _ c.byte_of.ensures, c.in_ok-byte_of.was, sym c.meter_of.ensures ∙ c.in_err-meter.was)
 
 pub returns-in_err-ps : goal.returns-in_err-ps
-returns-in_err-ps c l w = rw (c.from_residual-in_err-ps.ensures, site_read l, sym (edition_here c.args.fields l w _) ∙ sym c.is_edition.ensures ∙ c.if-not-is_edition.false, sym (number_here c.args.fields l w _ 2 (omega arith)) ∙ sym c.number_of.ensures ∙ c.in_ok-al.was, sym (number_here c.args.fields l w _ 3 (omega arith)) ∙ sym c.number_of-2.ensures ∙ c.in_ok-filiere.was, sym (ap meter_where (ap meter_of_letter c.byte_of.ensures ∙ meter_here c.args.fields l w _)) ∙ sym c.meter_of.ensures ∙ c.in_ok-meter.was, sym (number_here c.args.fields l w _ 5 (omega arith)) ∙ sym c.number_of-3.ensures ∙ c.in_err-ps.was)
+returns-in_err-ps c l w = rw (c.from_residual-in_err-ps.ensures, site_read l, sym (edition_here c.args.fields l w _) ∙ sym c.is_edition.ensures ∙ c.if-not-is_edition.false, sym (number_here c.args.fields l w _ 2 (omega arith)) ∙ sym c.number_of.ensures ∙ c.in_ok-al.was, sym (number_here c.args.fields l w _ 3 (omega arith)) ∙ sym c.number_of-2.ensures ∙ c.in_ok-filiere.was, meter_here c.args.fields l w _ _ c.byte_of.ensures, c.in_ok-byte_of.was, sym c.meter_of.ensures ∙ c.in_ok-meter.was, sym (number_here c.args.fields l w _ 5 (omega arith)) ∙ sym c.number_of-3.ensures ∙ c.in_err-ps.was)
 
 pub returns : goal.returns
-returns c l w = rw (site_read l, sym (edition_here c.args.fields l w _) ∙ sym c.is_edition.ensures ∙ c.if-not-is_edition.false, sym (number_here c.args.fields l w _ 2 (omega arith)) ∙ sym c.number_of.ensures ∙ c.in_ok-al.was, sym (number_here c.args.fields l w _ 3 (omega arith)) ∙ sym c.number_of-2.ensures ∙ c.in_ok-filiere.was, sym (ap meter_where (ap meter_of_letter c.byte_of.ensures ∙ meter_here c.args.fields l w _)) ∙ sym c.meter_of.ensures ∙ c.in_ok-meter.was, sym (number_here c.args.fields l w _ 5 (omega arith)) ∙ sym c.number_of-3.ensures ∙ c.in_ok-ps.was)
+returns c l w = rw (site_read l, sym (edition_here c.args.fields l w _) ∙ sym c.is_edition.ensures ∙ c.if-not-is_edition.false, sym (number_here c.args.fields l w _ 2 (omega arith)) ∙ sym c.number_of.ensures ∙ c.in_ok-al.was, sym (number_here c.args.fields l w _ 3 (omega arith)) ∙ sym c.number_of-2.ensures ∙ c.in_ok-filiere.was, meter_here c.args.fields l w _ _ c.byte_of.ensures, c.in_ok-byte_of.was, sym c.meter_of.ensures ∙ c.in_ok-meter.was, sym (number_here c.args.fields l w _ 5 (omega arith)) ∙ sym c.number_of-3.ensures ∙ c.in_ok-ps.was)

@@ -17,5 +17,5 @@ loop-k-preserved c =
     let n = some_read t c.in_ok-n.n c.in_ok-n.ensures in
     record {
       all_places = length-set c.loop-k.fields k _ ∙ c.loop-k.invariant.all_places;
-      read = read_on l _ t k w _ n _ _ (omega (arith, c.if-rest-n.false)) (field_on l _ t k w _ n _ _ c.loop-k-test.true c.field.ensures c.shape_of.ensures) (rest_past t _ _ n.length_is c.past.ensures);
+      read = read_on l _ t k w _ n _ _ (omega (arith, c.if-rest-n.false)) (field_on l _ t k w _ n _ _ c.loop-k-test.true c.field.ensures c.field_by.ensures) (rest_past t _ _ n.length_is c.past.ensures);
     }

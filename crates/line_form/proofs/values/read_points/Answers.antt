@@ -1,8 +1,11 @@
+use mathlib.Core.Bool.{true}
+use Rattle.std.proofs.Common.{rules}
 use Rattle.line_form.specs.Codes.{point_row}
-use Rattle.line_form.specs.Rows.{row_at, code_of}
+use Rattle.line_form.specs.Reads.{points_read_of}
+use Rattle.line_form.specs.Rows.{row_at, row_read_of, code_of}
 use Rattle.meaning.specs.Line.{value_at, number_at}
 use Rattle.line_form.proofs.values.read_points.Goals as goal
 
 pub returns : goal.returns
-unfolding row_at code_of point_row value_at number_at
-returns c = c.read_dated.ensures
+unfolding row_at row_read_of code_of point_row points_read_of value_at number_at
+returns c = c.read_values.ensures true (λ f b r. search rules)

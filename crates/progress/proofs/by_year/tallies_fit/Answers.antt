@@ -29,7 +29,7 @@ unfolding tallies_fit is_within
 returns-then-each_year-3 c =
     let h = c.history-h.result in
     let s = c.axis-around.result in
-    let t = c.args.tallies in
+    let t = c.args.tallies.now in
     let A = each_year h (λ y n. leb n (all_winter_dates y)) t.profile_dates in
     let B = each_year s (λ y n. leb n (all_dates y)) t.daily_dates in
     let C = each_year h (λ y n. leb n 1) t.breaks in
@@ -60,7 +60,7 @@ unfolding tallies_fit is_within
 returns-else-each_year-3 c =
     let h = c.history-h.result in
     let s = c.axis-around.result in
-    let t = c.args.tallies in
+    let t = c.args.tallies.now in
     let A = each_year h (λ y n. leb n (all_winter_dates y)) t.profile_dates in
     let B = each_year s (λ y n. leb n (all_dates y)) t.daily_dates in
     let C = each_year h (λ y n. leb n 1) t.breaks in

@@ -9,5 +9,5 @@ use Rattle.record_calls.proofs.Record.line.Goals as goal
 pub returns : goal.returns
 returns c =
     let o = c.apply_line-outcome in
-    ap (λ (z : List Reading). line_outcome_view o.result (lent_blocks o.new.near o.new.far o.new.slots o.new.daily (readings_view z) c.args.curve.now)) c.store.ensures
+    ap (λ (z : List Reading). line_outcome_view o.result o.new.progress (lent_blocks o.new.near o.new.far o.new.slots o.new.daily (readings_view z) c.args.curve.now)) c.store.ensures
     ∙ o.ensures c.args.readings.now c.args.curve.now refl refl

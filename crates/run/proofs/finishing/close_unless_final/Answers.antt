@@ -10,11 +10,11 @@ pub returns-then-is_final : goal.returns-then-is_final
 unfolding no_years
 returns-then-is_final c =
     let a = c.args in
-    let w = lent_blocks a.near.now a.far.now a.slots.now a.daily.now (readings_view a.readings) a.curve.now in
+    let w = lent_blocks a.near.now a.far.now a.slots.now a.daily.now (readings_view a.readings.now) a.curve.now in
     back_answered a.call.answer (view a.call.«record») w (sym c.is_final.ensures ∙ c.if-is_final.true)
 
 pub returns : goal.returns
 returns c =
     let a = c.args in
-    let w = lent_blocks a.near.now a.far.now a.slots.now a.daily.now (readings_view a.readings) a.curve.now in
-    c.close_own.ensures ∙ ap close_repr (sym (shut_open (call_view a.call w) (sym c.is_final.ensures ∙ c.if-is_final.false)))
+    let w = lent_blocks a.near.now a.far.now a.slots.now a.daily.now (readings_view a.readings.now) a.curve.now in
+    c.close.ensures ∙ ap close_repr (sym (shut_open (call_view a.call w) (sym c.is_final.ensures ∙ c.if-is_final.false)))

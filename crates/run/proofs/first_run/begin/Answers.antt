@@ -7,5 +7,5 @@ use Rattle.run.proofs.first_run.begin.Goals as goal
 pub returns : goal.returns
 unfolding started
 returns c =
-    let o = c.open_own-opened.ensures in
-    rw c.of-pending.ensures (ap (λ (x : Out). run_of x []) (rw (c.fresh_readings.ensures, c.never_opened.ensures) at o))
+    let o = c.open-call.ensures in
+    rw c.of-pending.ensures (ap (λ (x : Out). run_of x []) (rw (c.fresh_readings-readings.ensures, c.never_opened.ensures) at o))

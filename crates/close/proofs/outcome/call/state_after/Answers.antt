@@ -1,35 +1,35 @@
-use mathlib.Core.Path.{◌≡◌, refl}
-use mathlib.Core.Bool.{false}
-use lib.Dec.{eqb}
+use Rattle.std.proofs.Common.{◌≡◌, refl, eqb}
+use denote.Enum.Bare.{sameb}
+use Rattle.refusals.specs.contracts.Refusal.{the_type}
 use Rattle.refusals.specs.declared.Refusal.{Refusal}
 use Rattle.refusals.specs.declared.Refusal.TheVariants.{Unfit, Illegible, Unknown, Misplaced, Malformed, Outside, NoDate, NotLater, TooSoon, Falling, TooMany, Miscounted, NotOpen, NoEnd, Partial, NoData, ZeroTotal, TooHigh}
 use Rattle.refusals.specs.Refusals.{refusal_number}
 use Rattle.close.proofs.outcome.call.state_after.Goals as goal
 
-pub returns-in-NoEnd : goal.returns-in-NoEnd
+-- only NoEnd has the number 14
+is_end : (y : Refusal) → sameb the_type y NoEnd ≡ eqb (refusal_number y) 14
 unfolding refusal_number
-returns-in-NoEnd c = rw c.in-NoEnd.is
+is_end Unfit = refl
+is_end Illegible = refl
+is_end Unknown = refl
+is_end Misplaced = refl
+is_end Malformed = refl
+is_end Outside = refl
+is_end NoDate = refl
+is_end NotLater = refl
+is_end TooSoon = refl
+is_end Falling = refl
+is_end TooMany = refl
+is_end Miscounted = refl
+is_end NotOpen = refl
+is_end NoEnd = refl
+is_end Partial = refl
+is_end NoData = refl
+is_end ZeroTotal = refl
+is_end TooHigh = refl
 
-not-14 : (y : Refusal) → (y ≡ NoEnd → ⊥) → eqb (refusal_number y) 14 ≡ false
-unfolding refusal_number
-not-14 Unfit h = refl
-not-14 Illegible h = refl
-not-14 Unknown h = refl
-not-14 Misplaced h = refl
-not-14 Malformed h = refl
-not-14 Outside h = refl
-not-14 NoDate h = refl
-not-14 NotLater h = refl
-not-14 TooSoon h = refl
-not-14 Falling h = refl
-not-14 TooMany h = refl
-not-14 Miscounted h = refl
-not-14 NotOpen h = refl
-not-14 NoEnd h = absurd (h refl)
-not-14 Partial h = refl
-not-14 NoData h = refl
-not-14 ZeroTotal h = refl
-not-14 TooHigh h = refl
+pub returns-then-eq : goal.returns-then-eq
+returns-then-eq c = rw (← is_end c.args.refusal, ← c.eq.ensures, c.if-eq.true) refl
 
-pub returns-in_default : goal.returns-in_default
-returns-in_default c = rw (not-14 c.args.refusal c.in_default.not-NoEnd)
+pub returns-else-eq : goal.returns-else-eq
+returns-else-eq c = rw (← is_end c.args.refusal, ← c.eq.ensures, c.if-eq.false) refl

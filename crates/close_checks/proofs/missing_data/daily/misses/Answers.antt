@@ -10,4 +10,4 @@ pub returns : goal.returns
 unfolding misses_between
 returns c =
     let a = c.args in
-    any_between (λ z. eqb (get_or a.dates z 0) 0) (a.a / 366) ((a.b - 1) / 366 + 1) _ _ _ c.any.ensures.ran (cc) (λ x b q k. search (rules, tests))
+    any_between (λ z. eqb (get_or a.dates.now z 0) 0) (a.a / 366) ((a.b - 1) / 366 + 1) _ _ _ c.any.ensures.ran (cc) (λ x b q k. search (rules, tests))

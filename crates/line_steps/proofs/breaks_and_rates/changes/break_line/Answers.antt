@@ -21,7 +21,7 @@ use Rattle.line_steps.proofs.breaks_and_rates.changes.break_line.Goals as goal
 
 pub returns-in_err-year : goal.returns-in_err-year
 returns-in_err-year c l told k =
-    λ n. let s = open_rec n c.args.progress in
+    λ n. let s = open_rec n c.args.progress.now in
     let p = err_from_is_err_and c.from_residual.result c.from_residual.ensures.1 in
     rw (p.1, p.2) (step_refused s l (no_block) _ _ (sym c.in_err-year.was ∙ break_seen s l k _ (c.check_break.ensures l told k)))
 
@@ -31,18 +31,18 @@ row : (p : Progress) (f : Fields) (r : Result ℕ Refusal) (v : ℕ) (h : Years)
     → r ≡ Ok v → h ≡ history_years p.site.al p.site.filiere → Row h.first v 10
 row p f r v h t e q z = break_place (open_rec 0 p) t.0 t.2 r (e t.0 t.1 t.2) v q h z
 
-pub overflow_sub-i : goal.overflow_sub-i
-overflow_sub-i c = (row c.args.progress c.args.fields _ _ _ c.requires c.check_break.ensures c.in_ok-year.was c.history-years.ensures).from
+pub row-i-requires : goal.row-i-requires
+row-i-requires c = (row c.args.progress.now c.args.fields _ _ _ c.requires c.check_break.ensures c.in_ok-year.was c.history-years.ensures).from
 
 pub offset_bounds-progress-i : goal.offset_bounds-progress-i
-offset_bounds-progress-i c = omega (arith, (row c.args.progress c.args.fields _ _ _ c.requires c.check_break.ensures c.in_ok-year.was c.history-years.ensures).below)
+offset_bounds-progress-i c = omega (arith, (row c.args.progress.now c.args.fields _ _ _ c.requires c.check_break.ensures c.in_ok-year.was c.history-years.ensures).below)
 
 pub bounds-progress-i : goal.bounds-progress-i
-bounds-progress-i c = omega (arith, (row c.args.progress c.args.fields _ _ _ c.requires c.check_break.ensures c.in_ok-year.was c.history-years.ensures).below)
+bounds-progress-i c = omega (arith, (row c.args.progress.now c.args.fields _ _ _ c.requires c.check_break.ensures c.in_ok-year.was c.history-years.ensures).below)
 
 pub returns : goal.returns
 returns c l told k =
     let e = c.check_break.ensures l told k in
     let q = c.in_ok-year.was in
-    λ n. let s = open_rec n c.args.progress in
-    rw c.rank.ensures (took_b s l (break_none s l k _ e _ q) k.tag c.history-years.result _ (c.history-years.ensures ∙ break_history s l k _ e _ q) (break_year s l k _ e _ q))
+    λ n. let s = open_rec n c.args.progress.now in
+    rw (c.rank-progress.ensures, c.row-i.ensures) (took_b s l (break_none s l k _ e _ q) k.tag c.history-years.result _ (c.history-years.ensures ∙ break_history s l k _ e _ q) (break_year s l k _ e _ q))

@@ -1,11 +1,18 @@
 use mathlib.Core.Path.{sym, ◌∙◌}
-use Rattle.meaning.specs.Line.{C}
-use Rattle.line_steps.proofs.InWinter.{winter_told, points_winter}
+use Rattle.std.proofs.lemmas.Result.{err_from_is_err_and}
+use Rattle.line_form.specs.Views.{meter_view}
+use Rattle.line_steps.proofs.InWinter.{points_told}
 use Rattle.line_steps.proofs.points_and_profiles.checks.check_points.Goals as goal
 
+pub returns-in_err-read : goal.returns-in_err-read
+returns-in_err-read c l w k =
+    let p = err_from_is_err_and c.from_residual.result c.from_residual.ensures.1 in
+    rw (p.1, p.2, points_told l c.args.progress.now.last c.args.progress.now.site.al c.args.progress.now.site.filiere c.args.progress.now.lasts.c (meter_view c.args.progress.now.site.meter) k, sym (rw (c.points_misplaced.ensures, c.read_points.ensures l w) at c.in_order.ensures) ∙ c.in_err-read.was)
+
+pub returns-in_err-date : goal.returns-in_err-date
+returns-in_err-date c l w k =
+    let p = err_from_is_err_and c.from_residual-in_err-date.result c.from_residual-in_err-date.ensures.1 in
+    rw (p.1, p.2, points_told l c.args.progress.now.last c.args.progress.now.site.al c.args.progress.now.site.filiere c.args.progress.now.lasts.c (meter_view c.args.progress.now.site.meter) k, sym (rw (c.points_misplaced.ensures, c.read_points.ensures l w) at c.in_order.ensures) ∙ c.in_ok-read.was, sym (rw (c.history-years.ensures, c.points_outside-above.ensures) at c.check_winter.ensures) ∙ c.in_err-date.was)
+
 pub returns : goal.returns
-returns c l w k = (
-  rw (c.points_misplaced-misplaced.ensures, (c.read_points-read.ensures l w).0, c.points_outside-above.ensures, (c.read_points-read.ensures l w).1) at c.check_winter.ensures
-      ∙ sym (winter_told C _ _ _ _ _ _ _ (points_winter l c.args.last c.args.al c.args.filiere c.args.latest _ k)),
-  (c.read_points-read.ensures l w).1,
-)
+returns c l w k = rw (points_told l c.args.progress.now.last c.args.progress.now.site.al c.args.progress.now.site.filiere c.args.progress.now.lasts.c (meter_view c.args.progress.now.site.meter) k, sym (rw (c.points_misplaced.ensures, c.read_points.ensures l w) at c.in_order.ensures) ∙ c.in_ok-read.was, sym (rw (c.history-years.ensures, c.points_outside-above.ensures) at c.check_winter.ensures) ∙ c.in_ok-date.was)

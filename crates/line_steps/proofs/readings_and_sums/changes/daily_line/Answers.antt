@@ -23,7 +23,7 @@ use Rattle.line_steps.proofs.readings_and_sums.changes.daily_line.Goals as goal
 
 pub returns-in_err-checked : goal.returns-in_err-checked
 returns-in_err-checked c l told k =
-    λ n. let s = open_rec n c.args.progress in
+    λ n. let s = open_rec n c.args.progress.now in
     let p = err_from_is_err_and c.from_residual.result c.from_residual.ensures.1 in
     rw (p.1, p.2) (step_refused s l (daily_block c.args.daily.now) _ _ (sym c.in_err-checked.was ∙ daily_seen s l k _ (c.check_daily.ensures l told k)))
 
@@ -33,15 +33,15 @@ row : (p : Progress) (f : Fields) (r : Result DailyChecked Refusal) (j : DailyCh
     → r ≡ Ok j → a ≡ axis_years (history_years p.site.al p.site.filiere) → Row a.first j.year 12
 row p f r j a t e q z = daily_year_place (open_rec 0 p) t.0 t.2 r (e t.0 t.1 t.2) j q a z
 
-pub overflow_sub-i : goal.overflow_sub-i
-overflow_sub-i c = (row c.args.progress c.args.fields _ _ _ c.requires.0 c.check_daily.ensures c.in_ok-checked.was c.axis-years.ensures).from
+pub row-i-requires : goal.row-i-requires
+row-i-requires c = (row c.args.progress.now c.args.fields _ _ _ c.requires.0 c.check_daily.ensures c.in_ok-checked.was c.axis-years.ensures).from
 
 pub put_sum-requires : goal.put_sum-requires
 put_sum-requires c =
     let l = c.requires.0.0 in
     let told = c.requires.0.1 in
     let k = c.requires.0.2 in
-    let s = open_rec 0 c.args.progress in
+    let s = open_rec 0 c.args.progress.now in
     let e = c.check_daily.ensures l told k in
     let q = c.in_ok-checked.was in
     let t = daily_say s l k _ e _ q in
@@ -49,19 +49,19 @@ put_sum-requires c =
     (rw (t.1, c.requires.2) p.0, rw t.2 p.1)
 
 pub offset_bounds-progress-i : goal.offset_bounds-progress-i
-offset_bounds-progress-i c = omega (arith, (row c.args.progress c.args.fields _ _ _ c.requires.0 c.check_daily.ensures c.in_ok-checked.was c.axis-years.ensures).below)
+offset_bounds-progress-i c = omega (arith, (row c.args.progress.now c.args.fields _ _ _ c.requires.0 c.check_daily.ensures c.in_ok-checked.was c.axis-years.ensures).below)
 
 pub bounds-progress-i : goal.bounds-progress-i
-bounds-progress-i c = omega (arith, (row c.args.progress c.args.fields _ _ _ c.requires.0 c.check_daily.ensures c.in_ok-checked.was c.axis-years.ensures).below)
+bounds-progress-i c = omega (arith, (row c.args.progress.now c.args.fields _ _ _ c.requires.0 c.check_daily.ensures c.in_ok-checked.was c.axis-years.ensures).below)
 
 pub bounds-progress-i-2 : goal.bounds-progress-i-2
-bounds-progress-i-2 c = omega (arith, (row c.args.progress c.args.fields _ _ _ c.requires.0 c.check_daily.ensures c.in_ok-checked.was c.axis-years.ensures).below)
+bounds-progress-i-2 c = omega (arith, (row c.args.progress.now c.args.fields _ _ _ c.requires.0 c.check_daily.ensures c.in_ok-checked.was c.axis-years.ensures).below)
 
 pub returns : goal.returns
 returns c l told k =
     let h = c.axis-years in
     let e = c.check_daily.ensures l told k in
     let q = c.in_ok-checked.was in
-    λ n. let s = open_rec n c.args.progress in
+    λ n. let s = open_rec n c.args.progress.now in
     let f = daily_none s l k _ e _ q in
-    rw c.rank.ensures (took_d s l f k.tag c.args.daily.now _ h.result _ _ _ _ (daily_say s l k _ e _ q) (h.ensures ∙ daily_axis s l f k.tag) c.put_sum.ensures)
+    rw (c.rank-progress.ensures, c.row-i.ensures) (took_d s l f k.tag c.args.daily.now _ h.result _ _ _ _ (daily_say s l k _ e _ q) (h.ensures ∙ daily_axis s l f k.tag) c.put_sum.ensures)

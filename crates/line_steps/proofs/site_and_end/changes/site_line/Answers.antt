@@ -9,12 +9,12 @@ use Rattle.line_steps.proofs.site_and_end.changes.site_line.Goals as goal
 
 pub returns-in_err-progress : goal.returns-in_err-progress
 returns-in_err-progress c l told k =
-    λ n. let s = open_rec n c.args.progress in
+    λ n. let s = open_rec n c.args.progress.now in
     let p = err_from_is_err_and c.from_residual.result c.from_residual.ensures.1 in
     rw (p.1, p.2) (step_refused s l (no_block) _ _ (sym c.in_err-progress.was ∙ site_seen s l k _ (c.check_site.ensures l told k)))
 
 pub returns : goal.returns
 returns c l told k =
-    λ n. let s = open_rec n c.args.progress in
+    λ n. let s = open_rec n c.args.progress.now in
     let t = site_taken s l k _ (c.check_site.ensures l told k) _ c.in_ok-progress.was in
-    rw c.rank.ensures (took_s s l t.0 k.tag _ t.1)
+    rw c.rank-progress.ensures (took_s s l t.0 k.tag _ t.1)

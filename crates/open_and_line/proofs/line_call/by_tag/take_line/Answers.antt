@@ -3,7 +3,7 @@ use Rattle.meaning.specs.Line.{S, C, X, D, P, B, R, E}
 use Rattle.line_form.specs.Views.{tag_view}
 use Rattle.line_form.proofs.Read.{read_illegible, told_legible}
 use Rattle.line_form.proofs.TagLaws.{unknown}
-use Rattle.progress.specs.ProgressViews.{open_rec}
+use Rattle.progress.specs.ProgressViews.{open_rec, without_reading}
 use Rattle.progress.specs.Steps.{line_blocks}
 use Rattle.progress.proofs.Steps.{step_2, step_3, stay_s, stay_c, stay_x, stay_d, stay_p, stay_b, stay_r, stay_e}
 use Rattle.progress.proofs.Rows.{few_profiles, few_sums}
@@ -13,14 +13,14 @@ use Rattle.open_and_line.proofs.line_call.by_tag.take_line.Goals as goal
 pub returns-in_default : goal.returns-in_default
 returns-in_default c =
     let a = c.args in
-    let s = open_rec a.count a.progress in
+    let s = open_rec a.count a.progress.now in
     let w = line_blocks a.near.now a.far.now a.slots.now a.daily.now in
     step_2 s a.line.now w (read_illegible a.line.now c.in_default.ensures)
 
 pub returns-in_default-known_tag : goal.returns-in_default-known_tag
 returns-in_default-known_tag c =
     let a = c.args in
-    let s = open_rec a.count a.progress in
+    let s = open_rec a.count a.progress.now in
     let w = line_blocks a.near.now a.far.now a.slots.now a.daily.now in
     let t = told_legible a.line.now c.in-Some.fields c.in-Some.ensures in
     step_3 s a.line.now w t.legible (unknown a.line.now (sym (c.in_default-known_tag.ensures a.line.now t)))
@@ -32,10 +32,10 @@ pub reading_line-requires : goal.reading_line-requires
 reading_line-requires c = let t = told_as X c.args.line.now c.in-Some.fields c.in-Some-known_tag.tag c.in-Some.ensures c.in-Some-known_tag.ensures (ap tag_view c.in-X.is) tt in (c.args.line.now, t.0, t.1)
 
 pub daily_line-requires : goal.daily_line-requires
-daily_line-requires c = let t = told_as D c.args.line.now c.in-Some.fields c.in-Some-known_tag.tag c.in-Some.ensures c.in-Some-known_tag.ensures (ap tag_view c.in-D.is) tt in ((c.args.line.now, t.0, t.1), few_sums (open_rec c.args.count c.args.progress) c.requires.0, c.requires.1.daily)
+daily_line-requires c = let t = told_as D c.args.line.now c.in-Some.fields c.in-Some-known_tag.tag c.in-Some.ensures c.in-Some-known_tag.ensures (ap tag_view c.in-D.is) tt in ((c.args.line.now, t.0, t.1), few_sums (open_rec c.args.count c.args.progress.now) c.requires.0, c.requires.1.daily)
 
 pub profiles_line-requires : goal.profiles_line-requires
-profiles_line-requires c = let t = told_as P c.args.line.now c.in-Some.fields c.in-Some-known_tag.tag c.in-Some.ensures c.in-Some-known_tag.ensures (ap tag_view c.in-P.is) tt in ((c.args.line.now, t.0, t.1), few_profiles (open_rec c.args.count c.args.progress) c.requires.0, c.requires.1.slots)
+profiles_line-requires c = let t = told_as P c.args.line.now c.in-Some.fields c.in-Some-known_tag.tag c.in-Some.ensures c.in-Some-known_tag.ensures (ap tag_view c.in-P.is) tt in ((c.args.line.now, t.0, t.1), few_profiles (open_rec c.args.count c.args.progress.now) c.requires.0, c.requires.1.slots)
 
 pub break_line-requires : goal.break_line-requires
 break_line-requires c = let t = told_as B c.args.line.now c.in-Some.fields c.in-Some-known_tag.tag c.in-Some.ensures c.in-Some-known_tag.ensures (ap tag_view c.in-B.is) tt in (c.args.line.now, t.0, t.1)
@@ -47,46 +47,46 @@ pub returns-in-S : goal.returns-in-S
 returns-in-S c =
     let a = c.args in
     let t = told_as S c.args.line.now c.in-Some.fields c.in-Some-known_tag.tag c.in-Some.ensures c.in-Some-known_tag.ensures (ap tag_view c.in-S.is) tt in
-    stay_s a.count a.progress a.line.now c.site_line.result (line_blocks a.near.now a.far.now a.slots.now a.daily.now) t.1.tag (c.site_line.ensures a.line.now t.0 t.1 a.count)
+    rw c.no_reading.ensures (stay_s a.count a.progress.now _ a.line.now (without_reading c.site_line.result) (line_blocks a.near.now a.far.now a.slots.now a.daily.now) t.1.tag (c.site_line.ensures a.line.now t.0 t.1 a.count))
 
 pub returns-in-C : goal.returns-in-C
 returns-in-C c =
     let a = c.args in
     let t = told_as C c.args.line.now c.in-Some.fields c.in-Some-known_tag.tag c.in-Some.ensures c.in-Some-known_tag.ensures (ap tag_view c.in-C.is) tt in
-    stay_c a.count a.progress a.line.now c.points_line.result (line_blocks a.near.now a.far.now a.slots.now a.daily.now) _ _ t.1.tag (c.points_line.ensures a.line.now t.0 t.1 a.count)
+    rw c.no_reading-in-C.ensures (stay_c a.count a.progress.now _ a.line.now (without_reading c.points_line.result) (line_blocks a.near.now a.far.now a.slots.now a.daily.now) _ _ t.1.tag (c.points_line.ensures a.line.now t.0 t.1 a.count))
 
 pub returns-in-X : goal.returns-in-X
 returns-in-X c =
     let a = c.args in
     let t = told_as X c.args.line.now c.in-Some.fields c.in-Some-known_tag.tag c.in-Some.ensures c.in-Some-known_tag.ensures (ap tag_view c.in-X.is) tt in
-    stay_x a.count a.progress a.line.now c.reading_line.result (line_blocks a.near.now a.far.now a.slots.now a.daily.now) t.1.tag (c.reading_line.ensures a.line.now t.0 t.1 a.count)
+    stay_x a.count a.progress.now _ a.line.now c.reading_line.result (line_blocks a.near.now a.far.now a.slots.now a.daily.now) t.1.tag (c.reading_line.ensures a.line.now t.0 t.1 a.count)
 
 pub returns-in-D : goal.returns-in-D
 returns-in-D c =
     let a = c.args in
     let t = told_as D c.args.line.now c.in-Some.fields c.in-Some-known_tag.tag c.in-Some.ensures c.in-Some-known_tag.ensures (ap tag_view c.in-D.is) tt in
-    stay_d a.count a.progress a.line.now c.daily_line.result (line_blocks a.near.now a.far.now a.slots.now a.daily.now) _ t.1.tag (c.daily_line.ensures a.line.now t.0 t.1 a.count)
+    rw c.no_reading-in-D.ensures (stay_d a.count a.progress.now _ a.line.now (without_reading c.daily_line.result) (line_blocks a.near.now a.far.now a.slots.now a.daily.now) _ t.1.tag (c.daily_line.ensures a.line.now t.0 t.1 a.count))
 
 pub returns-in-P : goal.returns-in-P
 returns-in-P c =
     let a = c.args in
     let t = told_as P c.args.line.now c.in-Some.fields c.in-Some-known_tag.tag c.in-Some.ensures c.in-Some-known_tag.ensures (ap tag_view c.in-P.is) tt in
-    stay_p a.count a.progress a.line.now c.profiles_line.result (line_blocks a.near.now a.far.now a.slots.now a.daily.now) _ t.1.tag (c.profiles_line.ensures a.line.now t.0 t.1 a.count)
+    rw c.no_reading-in-P.ensures (stay_p a.count a.progress.now _ a.line.now (without_reading c.profiles_line.result) (line_blocks a.near.now a.far.now a.slots.now a.daily.now) _ t.1.tag (c.profiles_line.ensures a.line.now t.0 t.1 a.count))
 
 pub returns-in-B : goal.returns-in-B
 returns-in-B c =
     let a = c.args in
     let t = told_as B c.args.line.now c.in-Some.fields c.in-Some-known_tag.tag c.in-Some.ensures c.in-Some-known_tag.ensures (ap tag_view c.in-B.is) tt in
-    stay_b a.count a.progress a.line.now c.break_line.result (line_blocks a.near.now a.far.now a.slots.now a.daily.now) t.1.tag (c.break_line.ensures a.line.now t.0 t.1 a.count)
+    rw c.no_reading-in-B.ensures (stay_b a.count a.progress.now _ a.line.now (without_reading c.break_line.result) (line_blocks a.near.now a.far.now a.slots.now a.daily.now) t.1.tag (c.break_line.ensures a.line.now t.0 t.1 a.count))
 
 pub returns-in-R : goal.returns-in-R
 returns-in-R c =
     let a = c.args in
     let t = told_as R c.args.line.now c.in-Some.fields c.in-Some-known_tag.tag c.in-Some.ensures c.in-Some-known_tag.ensures (ap tag_view c.in-R.is) tt in
-    stay_r a.count a.progress a.line.now c.rate_line.result (line_blocks a.near.now a.far.now a.slots.now a.daily.now) t.1.tag (c.rate_line.ensures a.line.now t.0 t.1 a.count)
+    rw c.no_reading-in-R.ensures (stay_r a.count a.progress.now _ a.line.now (without_reading c.rate_line.result) (line_blocks a.near.now a.far.now a.slots.now a.daily.now) t.1.tag (c.rate_line.ensures a.line.now t.0 t.1 a.count))
 
 pub returns-in-E : goal.returns-in-E
 returns-in-E c =
     let a = c.args in
     let t = told_as E c.args.line.now c.in-Some.fields c.in-Some-known_tag.tag c.in-Some.ensures c.in-Some-known_tag.ensures (ap tag_view c.in-E.is) tt in
-    stay_e a.count a.progress a.line.now c.end_line.result (line_blocks a.near.now a.far.now a.slots.now a.daily.now) t.1.tag (c.end_line.ensures a.line.now t.0 t.1)
+    rw c.no_reading-in-E.ensures (stay_e a.count a.progress.now _ a.line.now (without_reading c.end_line.result) (line_blocks a.near.now a.far.now a.slots.now a.daily.now) t.1.tag (c.end_line.ensures a.line.now t.0 t.1))
