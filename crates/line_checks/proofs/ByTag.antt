@@ -1,5 +1,5 @@
 -- S, B, R and E: the checks of the code are the conditions of the line's refusal, and what it reads from an accepted line is what the line says.
-use Rattle.std.specs.Prelude.{Option, Some, None, Result, Ok}
+use Rattle.std.specs.Prelude.{Option, Result, Ok}
 use Rattle.refusals.specs.declared.Refusal.{Refusal}
 use Rattle.refusals.specs.declared.Refusal.TheVariants.{Outside, TooSoon, Miscounted}
 use Rattle.refusals.specs.Refusals.{refused_if, unless_reason}
@@ -12,10 +12,10 @@ use Rattle.meaning.specs.Filing.{no_meter}
 use Rattle.meaning.specs.Line.{Line, S, B, R, E, year_on, site_on, key_of}
 use Rattle.meaning.specs.Refusals.{outside, holds, refusal, is_too_soon}
 use Rattle.meaning.specs.Record.{is_within}
-use Rattle.line_form.specs.Views.{site_view, site_repr, meter_view, meter_repr}
+use Rattle.line_form.proofs.LetterLaws.{meter_back}
+use Rattle.line_form.specs.Views.{site_view, site_repr}
 use Rattle.line_form.specs.declared.Site.{Site}
 use Rattle.line_form.specs.declared.Meter.{Meter}
-use Rattle.line_form.specs.declared.Meter.TheVariants.{Curve, Index}
 use Rattle.line_form.specs.Reads.{where_formed, is_formed, capped_at, site_read_of, rate_read_of}
 use Rattle.line_form.specs.Ranges.{is_site_outside, is_year_outside, is_rate_outside, is_count_outside}
 use Rattle.line_form.proofs.Capped.{early_history}
@@ -110,12 +110,7 @@ module _ (l : Line) (last al f latest : ℕ) (k : Known R l) where
 
 -- ---- S
 shown_view : (s : Site) → site_repr (site_view s) ≡ s
-shown_view s = ap (λ (m : Option Meter). record { al = s.al; filiere = s.filiere; meter = m; ps = s.ps }) (shown_meter s.meter)
-  where
-    shown_meter : (m : Option Meter) → meter_repr (meter_view m) ≡ m
-    shown_meter None = refl
-    shown_meter (Some Curve) = refl
-    shown_meter (Some Index) = refl
+shown_view s = ap (λ (m : Option Meter). record { al = s.al; filiere = s.filiere; meter = m; ps = s.ps }) (meter_back s.meter)
 
 module _ (l : Line) (last : ℕ) (k : Known S l) where
   site_asks : Asks (before_first last) l (record {

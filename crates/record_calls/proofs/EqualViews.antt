@@ -1,24 +1,19 @@
 -- Equal views are equal records: what the promises say of views they say of records.
 use mathlib.Core.Path.{◌≡◌, refl, ap, sym, ◌∙◌}
-use Rattle.std.specs.Prelude.{Option, Some, None}
+use Rattle.std.specs.Prelude.{Option}
 use Rattle.meaning.specs.Record as meant
 use Rattle.meaning.specs.Record.{Rec}
 use Rattle.line_form.specs.Views.{meter_view, meter_repr}
+use Rattle.line_form.proofs.LetterLaws.{meter_back}
 use Rattle.line_form.specs.declared.Meter.{Meter}
-use Rattle.line_form.specs.declared.Meter.TheVariants.{Curve, Index}
 use Rattle.progress.specs.declared.State.{State}
 use Rattle.progress.specs.declared.State.TheVariants.{NeverOpened, Open, Refused, Closed}
 use Rattle.progress.specs.ProgressViews.{state_view}
 use Rattle.record_calls.specs.Views.{view}
 use Rattle.record_calls.specs.declared.Record.{Record}
 
-back : (m : Option Meter) → meter_repr (meter_view m) ≡ m
-back None = refl
-back (Some Curve) = refl
-back (Some Index) = refl
-
 same_meter : (m n : Option Meter) → meter_view m ≡ meter_view n → m ≡ n
-same_meter m n e = sym (back m) ∙ ap meter_repr e ∙ back n
+same_meter m n e = sym (meter_back m) ∙ ap meter_repr e ∙ meter_back n
 
 abbrev state_repr : meant.State → State
 state_repr meant.unopened = NeverOpened

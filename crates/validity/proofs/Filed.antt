@@ -100,9 +100,6 @@ module _ (t : Site) (n : ℕ) (w : Blocks) {ps xs ks : List ℕ} (cols : Columne
     pub columns_count : NonDecreasing xs n
     columns_count = record { held = omega (arith, cols.indexes); climbs = (fits (axis_years (history_of_site t)) cols fit).climbs }
 
-  pub columns_kinds : n ≤ length ks
-  columns_kinds = omega (arith, cols.kinds)
-
 pub columns_daily : (w : Blocks) → T (sizes_fit w) → length w.daily ≡ 4392
 unfolding sizes_fit
 columns_daily w t =
