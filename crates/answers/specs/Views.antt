@@ -11,7 +11,7 @@ use Rattle.answers.specs.declared.Answer.TheVariants.{Accepted, Refused, Reporte
 abbrev pub answer_view : Answer → meant.Answer
 answer_view Accepted = accepted
 answer_view (Refused n c) = refused n c
-answer_view (Reported al f n k) = reported (record { al = al; filiere = f; level = n; points = k; years = [] })
+answer_view (Reported al f w k) = reported (record { al = al; filiere = f; level = w.0; points = k; years = [] })
 
 -- the answer to a line that was taken or refused
 unfoldable pub answer_to : Result (Unit {0}) Refusal → ℕ → Answer

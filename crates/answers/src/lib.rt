@@ -10,6 +10,7 @@ ghost use Rattle.answers.specs.Views.{answer_to};
 pub use first_refusals::{ended_refusal, line_refusal};
 pub use lengths::Lengths;
 use refusals::Refusal;
+use rounding::Watts;
 
 #[derive(Clone, Copy, PartialEq, Eq)]
 pub enum Answer {
@@ -19,11 +20,11 @@ pub enum Answer {
         number: u64,
         count: u64,
     },
-    // the level in W, and the points counted
+    // the level, and the points counted
     Reported {
         al: u64,
         filiere: u64,
-        level: u64,
+        level: Watts,
         points: u64,
     },
 }

@@ -18,8 +18,8 @@ day_put l vs ys s w h k n e =
     let z : s + (20 * w + 0) ≡ s + 20 * w = omega arith in
     rw (e, m, z, sets-eq vs l (s + 20 * w) (omega (arith, n)), n, drop-drop 20 (s + 20 * w) l, append_assoc (take (s + 20 * w) l) vs (drop (s + 20 * w + 20) l))
 
--- an array made place by place of h of each code is h of the codes
-pub mapped : (h : ℕ → ℕ) (xs ys : List ℕ) → length xs ≡ 20 → ys ≡ tab 20 0 (λ k. h (get_or xs k 0)) → ys ≡ map h xs
-mapped h xs ys n e =
-    e ∙ ext_get_or (h 0) (tab 20 0 (λ k. h (get_or xs k 0))) (map h xs) (length_tab 20 0 (λ k. h (get_or xs k 0)) ∙ sym (length-map xs h ∙ n))
-    (λ k l. get_d_tab0 20 (λ k. h (get_or xs k 0)) k (h 0) (omega (arith, l, length_tab 20 0 (λ k. h (get_or xs k 0)))) ∙ sym (get_or-map h xs k 0))
+-- an array made place by place of h of each value is h of the values
+pub mapped : {A : Type 0} (d : A) (h : A → ℕ) (xs : List A) (ys : List ℕ) → length xs ≡ 20 → ys ≡ tab 20 0 (λ k. h (get_or xs k d)) → ys ≡ map h xs
+mapped d h xs ys n e =
+    e ∙ ext_get_or (h d) (tab 20 0 (λ k. h (get_or xs k d))) (map h xs) (length_tab 20 0 (λ k. h (get_or xs k d)) ∙ sym (length-map xs h ∙ n))
+    (λ k l. get_d_tab0 20 (λ k. h (get_or xs k d)) k (h d) (omega (arith, l, length_tab 20 0 (λ k. h (get_or xs k d)))) ∙ sym (get_or-map h xs k d))

@@ -9,4 +9,4 @@ profile_code v = min v most_profile
 
 -- the slot block with the values of a P line stored, by oldest history year, year and winter place
 unfoldable pub slots_put : ℕ → ℕ → ℕ → List ℕ → List ℕ → List ℕ
-slots_put oldest y w codes slots = sets slots (slots_start oldest y + slot_at w 0) (map profile_code codes)
+slots_put oldest y w values slots = sets slots (slots_start oldest y + slot_at w 0) (map profile_code values)

@@ -4,20 +4,20 @@ ghost use Rattle.blocks.specs.PointStores.{point_code, near_put, far_put, RowPla
 
 use crate::NO_POINT;
 use crate::day_values::put_day;
+use rounding::Watts;
 use std::array::from_fn;
 
-// The largest point, in W.
-const MOST_POWER: u64 = 100_000_000;
+// The largest point.
+const MOST_POWER: Watts = Watts(100_000_000);
 
-// A point as the block stores it: a code that is no point becomes a missing one.
+// A point as the block stores it: the number of one within its range. None, and one above it, is missing.
 #[tactic(auto, unfolding(crate::specs::PointStores::point_code))]
-fn point_code(code: u64) -> u32
-    ensures { result ≡ point_code code }
+fn point_code(point: Option<Watts>) -> u32
+    ensures { result ≡ point_code point }
 {
-    if code <= MOST_POWER {
-        code as u32
-    } else {
-        NO_POINT
+    match point {
+        Some(power) if power.0 <= MOST_POWER.0 => power.0 as u32,
+        _ => NO_POINT,
     }
 }
 
@@ -28,16 +28,16 @@ pub fn put_points(
     al: u64,
     year: u64,
     place: usize,
-    codes: &[u64; 20],
+    points: &[Option<Watts>; 20],
 )
-    requires { (length codes.now ≡ 20) × RowPlace al year place × ((length near.old ≡ 15200) × (length far.old ≡ 15200)) }
-    ensures { (near.new ≡ near_put al year place codes.now near.old) × (far.new ≡ far_put al year place codes.now far.old) }
+    requires { (length points.now ≡ 20) × RowPlace al year place × ((length near.old ≡ 15200) × (length far.old ≡ 15200)) }
+    ensures { (near.new ≡ near_put al year place points.now near.old) × (far.new ≡ far_put al year place points.now far.old) }
 {
     // `from_fn`, since `map` of an array clears each place that it takes
-    let points = from_fn(|h| point_code(codes[h]));
+    let codes = from_fn(|h| point_code(points[h]));
     if al - 9 <= year {
-        put_day(near, year - (al - 9), place, &points);
+        put_day(near, year - (al - 9), place, &codes);
     } else {
-        put_day(far, year - (al - 14), place, &points);
+        put_day(far, year - (al - 14), place, &codes);
     }
 }

@@ -9,20 +9,20 @@ use std::array::from_fn;
 const MOST_PROFILE: u64 = 65_535;
 
 #[tactic(auto, unfolding(crate::specs::Stores::profile_code))]
-fn profile_code(code: u64) -> u16
-    ensures { result ≡ profile_code code }
+fn profile_code(value: u64) -> u16
+    ensures { result ≡ profile_code value }
 {
-    code.min(MOST_PROFILE) as u16
+    value.min(MOST_PROFILE) as u16
 }
 
 // P: stores the profile values in the year's row; rows run from the oldest history year.
-pub fn put_profiles(slots: &mut [u16], oldest: u64, year: u64, place: usize, codes: &[u64; 20])
-    requires { (length codes.now ≡ 20) × ((oldest ≤ year) × (year < oldest + 10)) × ((place < 152) × (length slots.old ≡ 30400)) }
-    ensures { slots.new ≡ slots_put oldest year place codes.now slots.old }
+pub fn put_profiles(slots: &mut [u16], oldest: u64, year: u64, place: usize, values: &[u64; 20])
+    requires { (length values.now ≡ 20) × ((oldest ≤ year) × (year < oldest + 10)) × ((place < 152) × (length slots.old ≡ 30400)) }
+    ensures { slots.new ≡ slots_put oldest year place values.now slots.old }
 {
     // `from_fn`, since `map` of an array clears each place that it takes
-    let values = from_fn(|h| profile_code(codes[h]));
-    put_day(slots, year - oldest, place, &values);
+    let codes = from_fn(|h| profile_code(values[h]));
+    put_day(slots, year - oldest, place, &codes);
 }
 
 // D: stores one daily sum.

@@ -1,5 +1,5 @@
-// Positions on the axis, 366 for each of its years: of a date, and back. By AL and filière, as the spans themselves, and not by a span: a position in a span of
-// any other years could be too large.
+// Positions on the axis, 366 for each of its years: of a date, and back. By AL and filière, as the spans themselves, and not by a span: a position
+// in a span of any other years could be too large.
 ghost use Rattle.std.specs.Prelude.{◌≡◌};
 ghost use Rattle.calendar.specs.Spans.{history_years, axis_years};
 ghost use Rattle.calendar.specs.Answers.{position_in, date_at};

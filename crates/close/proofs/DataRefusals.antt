@@ -1,9 +1,10 @@
 -- 15 to 18 in order of checking: the refusals in the code are those of document 01.
 use mathlib.Core.Path.{◌≡◌, refl, ap, sym, ◌∙◌}
-use mathlib.Core.Bool.{Bool, true, false, cond}
+use mathlib.Core.Bool.{Bool, true, false, not, cond}
 use mathlib.Core.List.{List}
 use mathlib.Core.Option.{Option, some, none}
 use Prim.Native.Nat.{ℕ}
+use lib.Dec.{T}
 use Rattle.lists.specs.Lists.{first_of}
 use Rattle.calendar.specs.Spans.{history_years}
 use Rattle.meaning.specs.Filing.{Site, Filing}
@@ -46,6 +47,13 @@ module _ (F : Filing) (c : List ℕ) where
   no_stop false true z x h = let n : ⊥ = cc in absurd n
   no_stop false false true x h = let n : ⊥ = cc in absurd n
   no_stop false false false x h = refl
+
+none_zero : (p l z : Bool) {u : Unit {0}} → Ok u ≡ first_refusal p l z → T (not z)
+unfolding first_refusal
+none_zero true l z h = let n : ⊥ = cc in absurd n
+none_zero false true z h = let n : ⊥ = cc in absurd n
+none_zero false false true h = let n : ⊥ = cc in absurd n
+none_zero false false false h = tt
 
 module _ {t : Site} {n : ℕ} {k : Tallies} {w : Blocks} {ps xs ks : List ℕ} (fit : FileFits t n k w ps xs ks) (c : List ℕ) where
   abbrev F' : Filing
@@ -92,6 +100,10 @@ module _ {t : Site} {n : ℕ} {k : Tallies} {w : Blocks} {ps xs ks : List ℕ} (
     passed x h =
         refusal_is ∙ no_stop F' c (close_holds partial F') (close_holds no_data F') (close_holds zero_total F') (close_holds too_high F') (e ∙ stop_is)
         ∙ ap (λ (b : Bool). cond b (some too_high) none) h
+
+    -- 17 does not hold
+    pub some_total : T (not (close_holds zero_total F'))
+    some_total = none_zero (close_holds partial F') (close_holds no_data F') (close_holds zero_total F') (e ∙ stop_is)
 
     -- refused by 18
     pub exceeded : close_holds too_high F' ≡ true → file_out (Err TooHigh) c ≡ file_out_of F' c

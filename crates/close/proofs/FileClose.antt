@@ -10,6 +10,7 @@ use borrow.Author.Tests.{eq-eqb, ne_eqb}
 use Rattle.lists.specs.Lists.{first_of}
 use Rattle.lists.proofs.Tests.{and_parts}
 use Rattle.calendar.specs.Spans.{is_known, axis_years}
+use Rattle.rounding.specs.Units.{in_w}
 use Rattle.meaning.specs.Filing.{Site, Filing}
 use Rattle.meaning.specs.Refusals.{is_too_soon, most_readings}
 use Rattle.meaning.specs.Line.{most_index}
@@ -129,7 +130,7 @@ not_unended F e = go (close_holds no_end F) (close_holds partial F) (close_holds
 pub record Reported (s : Rec) (w : Blocks) (r : FileReport) (c : List ℕ) : Type 0 where
   pub result : close_by (closing_refusal (filing_of s w)) s w ≡ out (reported (report_of (filing_of s w))) (in_state closed_state s.count s) (with_curve w c)
   pub closing : r ≡ report_repr (report_of (filing_of s w))
-  pub level : r.level ≡ (report_of (filing_of s w)).level
+  pub level : r.level ≡ in_w (report_of (filing_of s w)).level
   pub points : r.points ≡ (report_of (filing_of s w)).points
   pub some : 0 < r.points
   pub years : YearsReported (filing_of s w)

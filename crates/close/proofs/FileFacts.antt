@@ -6,19 +6,24 @@ use mathlib.Core.Option.{Option, some, none}
 use Prim.Native.Nat.{ℕ, ◌+◌, ◌-◌, ◌/◌, ◌%◌, ◌≤◌, ◌<◌}
 use native.Mathlib.Omega.{arith}
 use lib.Dec.{T, eqb, leb, ltb, eqb→eq, leb→le}
+use borrow.Author.Tests.{ltb-true, ltb-false}
 use lib.ListN.{length, get_or}
 use Rattle.calendar.specs.Dates.{all_winter_dates, all_dates}
+use Rattle.calendar.specs.Places.{has_winter_date}
 use Rattle.points.specs.OwnFits.{is_point}
 use Rattle.lists.proofs.AllAt.{all_at_read}
 use Rattle.lists.proofs.Tests.{and_parts, and_made}
+use Rattle.rounding.specs.declared.Energy.{Energy}
+use Rattle.rounding.specs.Units.{in_wh}
 use Rattle.calendar.specs.declared.Years.{Years}
 use Rattle.calendar.specs.Spans.{among, is_known, history_years, axis_years}
 use Rattle.calendar.proofs.Laws.{among_words, history_short}
 use Rattle.meaning.specs.Filing.{Site, Filing, history_of}
 use Rattle.meaning.specs.Line.{most_power}
-use Rattle.meaning.specs.Validity.{Interval, curve_valid, index_valid}
+use Rattle.meaning.specs.Validity.{Interval, total_of, curve_valid, index_valid}
 use Rattle.meaning.specs.Cases.{is_default, case_of}
 use Rattle.meaning.specs.Points.{Origin, as_read, by_profile, profiled_in, profiled_at, interval_at, position_at}
+use Rattle.meaning.specs.Closing.{zero_total, close_holds}
 use Rattle.meaning.specs.Blocks.{Blocks, missing_point, row_size, points_size, slots_size, daily_size, readings_size, curve_size, sizes_fit}
 use Rattle.meaning.specs.Record.{Tallies, history_of_site, is_within, site_fits, each_year, tallies_fit, is_dated, point_fits, points_fit, filing_held}
 use Rattle.meaning.proofs.Lines.{timely}
@@ -36,15 +41,17 @@ use Rattle.history.specs.declared.cases.Case.{Case}
 use Rattle.history.specs.declared.cases.Case.TheVariants.{M}
 use Rattle.history.specs.Cases.{case_view, cases_of, default_years}
 use Rattle.history.specs.Years.{position_in}
+use Rattle.history.specs.Fits.{NonzeroTotals}
 use Rattle.history.specs.ValidYears.{is_broken, valid_curve_at, valid_curves, valid_index_at, valid_indexes}
 use Rattle.points.specs.Fits.{RateFits, RatesFit}
 use Rattle.curve.specs.Places.{site_factors_of}
-use Rattle.curve.specs.Fits.{SiteFits, ListsFit}
+use Rattle.curve.specs.Fits.{SiteFits, ListsFit, IndexYearsFit}
 use Rattle.curve.proofs.Sites.{basis_fits}
 use Rattle.curve.proofs.Filings.{Means}
-use Rattle.curve.proofs.GivenFile.{position_is, points_fit_lem, cases_are}
+use Rattle.curve.proofs.GivenFile.{position_is, points_fit_lem, cases_are, profiled_fit_lem}
 use Rattle.close.specs.Closes.{FileFits}
-use Rattle.history.proofs.YearTables.{at_year}
+use Rattle.history.proofs.YearTables.{at_year, past_years}
+use Rattle.demands.proofs.Bound.Intervals.{in_152, total_positive}
 
 -- ---- the site
 pub site_words : (t : Site) → T (site_fits true t) → T (is_known t.al t.filiere) × (t.ps ≤ most_power)
@@ -151,7 +158,7 @@ module _ {t : Site} {n : ℕ} {k : Tallies} {w : Blocks} {ps xs ks : List ℕ} (
   pub curve_size_lem : length w.curve ≡ 4400
   curve_size_lem = (block_sizes w fit.sizes).1
 
-  abbrev energies : List ℕ
+  abbrev energies : List Energy
   energies = energies_of ps xs n
 
   abbrev totals : List ℕ
@@ -208,15 +215,38 @@ module _ {t : Site} {n : ℕ} {k : Tallies} {w : Blocks} {ps xs ks : List ℕ} (
 
   -- ---- E and daily total around a winter day
   around : (j v p : ℕ) → j < h.count → v < 152
-      → profiled_in F (interval_at F (h.first + j) v) p ≡ by_profile (get_or energies (position_in j v) 0) p (get_or totals (position_in j v) 0)
+      → profiled_in F (interval_at F (h.first + j) v) p ≡ by_profile (get_or energies (position_in j v) (in_wh 0)).0 p (get_or totals (position_in j v) 0)
   unfolding profiled_at
   around j v p l m =
       let y = h.first + j in
-      any_profile F (interval_at F y v) (F.profile y v 0) p (get_or energies (position_in j v) 0) (get_or totals (position_in j v) 0)
+      any_profile F (interval_at F y v) (F.profile y v 0) p (get_or energies (position_in j v) (in_wh 0)).0 (get_or totals (position_in j v) 0)
       (rw (at_position j v) at (profiled_year t n k true w fit.columns fit.readings y v 0 (in_history j l) m))
     where
       at_position : (i u : ℕ) → position_at F (h.first + i) u ≡ position_in i u
       at_position i u = unfold history_of filing_held in (position_is F known i u)
+
+  -- ---- 17 does not hold
+  counted_year : (j : ℕ) → T (get_or indexes j false) → j < h.count
+  unfolding valid_indexes
+  counted_year j u = go (ltb j h.count) refl
+    where
+      go : (b : Bool) → ltb j h.count ≡ b → j < h.count
+      go true e = ltb-true j h.count e
+      go false e = absurd (rw (past_years false (valid_index_at ps ks n k.breaks) h.count j (ltb-false j h.count e)) at u)
+
+  nonzero : T (not (close_holds zero_total F)) → NonzeroTotals h.first indexes totals
+  unfolding profiled_in total_in filing_held history_of history_of_site
+  nonzero z j v u =
+      let y = h.first + j in
+      let p = and_parts (get_or indexes j false) (has_winter_date y v) u in
+      let l = counted_year j p.0 in
+      let a = total_positive F known y v (in_history j l) p.1 z (rw (indexes_valid j l) at p.0) in
+      let t : total_of F a.0 ≡ get_or totals (position_in j v) 0 = ap total_in (rw a.1 at (around j v 0 l (in_152 y v p.1))) in
+      rw t at a.2
+
+  pub index_years : T (not (close_holds zero_total F)) → IndexYearsFit (site_factors_of t.al t.filiere t.ps).first totals indexes cases
+  unfolding site_factors_of
+  index_years z = record { nonzero = nonzero z; profiled = profiled_fit_lem t.meter h.count curves indexes short }
 
   pub means : Means F energies totals curves indexes cases
   unfolding history_of filing_held

@@ -5,8 +5,7 @@ use mathlib.Core.List.{List, []}
 use Prim.Native.Nat.{ℕ, ◌≤◌}
 use native.Mathlib.Omega.{arith}
 use lib.Dec.{T, eqb, leb, leb→le, eqb→eq}
-use lib.ListN.{length}
-use Rattle.lists.proofs.Tests.{and_parts, passed}
+use Rattle.lists.proofs.Tests.{and_parts}
 use Rattle.calendar.specs.declared.Years.{Years}
 use Rattle.calendar.specs.Spans.{history_years, axis_years}
 use Rattle.meaning.specs.Filing.{Reading}
@@ -18,8 +17,8 @@ use Rattle.readings.specs.Columns.{readings_in, lent_blocks, lent_blocks_in}
 use Rattle.close_checks.specs.Contents.{contents_in}
 use Rattle.close_checks.proofs.ContentLaws.{contents_fit_lem}
 use Rattle.progress.proofs.SiteTaken.{al_given, filiere_given}
-use Rattle.meaning.proofs.Sizes.{sizes_of}
-use Rattle.answers.proofs.Laws.{by_lengths}
+use Rattle.answers.specs.declared.lengths.Lengths.{Lengths}
+use Rattle.answers.specs.Refusals.{lengths_fit}
 use Rattle.close.specs.FirstRefusals.{all_fit}
 
 -- ---- bounds for a record within its ranges
@@ -54,11 +53,12 @@ unfolding axis_of_rec
 axis_by s al f v ea ef e = e ∙ ap axis_years (history_by s al f (history_years al f) ea ef refl)
 
 -- ---- 1, from the checks of the code
--- for the lent blocks with r readings, which the columns hold where r is 600
-pub all_fit_lem : (s : Rec) (w : Blocks) (r : ℕ) (ps xs ks : List ℕ) → length w.readings ≡ r → (r ≡ readings_size → readings_in ps xs ks readings_size ≡ w.readings)
-    → all_fit s r (length w.curve) (lent_blocks_in w.near w.far w.slots w.daily ps xs ks []) ≡ (sizes_fit w && (rec_fits s && contents_fit s w))
+-- by the lengths of the lent blocks, and columns that hold their readings where each block has its size
+pub all_fit_lem : (s : Rec) (w : Blocks) (n : Lengths) (ps xs ks : List ℕ) → lengths_fit n.near n.far n.slots n.daily n.readings n.curve ≡ sizes_fit w
+    → (sizes_fit w ≡ true → readings_in ps xs ks readings_size ≡ w.readings)
+    → all_fit s n (lent_blocks_in w.near w.far w.slots w.daily ps xs ks []) ≡ (sizes_fit w && (rec_fits s && contents_fit s w))
 unfolding all_fit
-all_fit_lem s w r ps xs ks l same = rw (← l, by_lengths w) (go (sizes_fit w) refl)
+all_fit_lem s w n ps xs ks l same = rw l (go (sizes_fit w) refl)
   where
     lent : List Reading → Blocks
     lent rs = lent_blocks w.near w.far w.slots w.daily rs []
@@ -67,7 +67,7 @@ all_fit_lem s w r ps xs ks l same = rw (← l, by_lengths w) (go (sizes_fit w) r
     held = unfold contents_fit readings_of in refl
 
     go : (b : Bool) → sizes_fit w ≡ b → (b && (rec_fits s && contents_fit s (lent (readings_in ps xs ks readings_size)))) ≡ (b && (rec_fits s && contents_fit s w))
-    go true e = ap (λ (x : Bool). rec_fits s && x) (ap (λ (rs : List Reading). contents_fit s (lent rs)) (same (sym l ∙ (sizes_of w (passed _ e)).readings)) ∙ held)
+    go true e = ap (λ (x : Bool). rec_fits s && x) (ap (λ (rs : List Reading). contents_fit s (lent rs)) (same e) ∙ held)
     go false e = refl
 
 -- from the columns

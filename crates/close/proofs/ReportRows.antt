@@ -12,6 +12,7 @@ use Rattle.lists.specs.Lists.{tab}
 use Rattle.lists.proofs.Laws.{length_tab, get_d_tab0}
 use Rattle.lists.proofs.Tables.{tab_same}
 use Rattle.lists.proofs.Ranges.{map_tab}
+use Rattle.rounding.specs.declared.Energy.{Energy}
 use Rattle.calendar.specs.declared.Years.{Years}
 use Rattle.calendar.specs.Spans.{history_years}
 use Rattle.meaning.specs.Filing.{Site, Filing, history_of, years_in, history_list}
@@ -76,7 +77,7 @@ module _ {t : Site} {n : ℕ} {k : Tallies} {w : Blocks} {ps xs ks : List ℕ} (
   abbrev h : Years
   h = history_years t.al t.filiere
 
-  abbrev es : List ℕ
+  abbrev es : List Energy
   es = energies_of ps xs n
 
   abbrev ts : List ℕ

@@ -1,24 +1,23 @@
--- The result of a close, for every list of readings with these columns and this length: 1, 13, 14, or the result for the file.
+-- The result of a close, whose readings were copied into columns: 1, 13, 14, or the result for the file.
 use mathlib.Core.Path.{◌≡◌, refl, ap, sym, subst, ◌∙◌}
 use mathlib.Core.Bool.{Bool, true, false, ◌&&◌, cond}
 use mathlib.Core.List.{List, []}
 use Prim.Native.Nat.{ℕ}
-use lib.Dec.{T, eqb, eqb→eq}
+use lib.Dec.{T, eqb}
 use lib.ListN.{length}
 use borrow.Author.Tests.{eq-eqb}
 use Rattle.lists.proofs.Tests.{and_both}
-use Rattle.lists.proofs.Laws.{length_tab}
+use Rattle.meaning.specs.Filing as meant
 use Rattle.meaning.specs.Filing.{Filing}
 use Rattle.meaning.specs.Level.{report_of}
 use Rattle.meaning.specs.Closing.{closing_refusal}
-use Rattle.meaning.specs.Blocks.{Blocks, sizes_fit, points_size, slots_size, daily_size, readings_size, curve_size}
+use Rattle.meaning.specs.Blocks.{Blocks, sizes_fit, readings_size}
 use Rattle.meaning.specs.Record.{refused_state, closed_state, is_open, Rec, in_state, rec_fits, contents_fit, filing_held, filing_of}
 use Rattle.meaning.specs.Calls.{Out, out, refused, leaves, with_curve, close_by, close_of}
 use Rattle.readings.specs.declared.Reading.{Reading}
 use Rattle.readings.specs.declared.Columns.{Columns}
 use Rattle.readings.specs.Readings.{readings_view, columns_of}
-use Rattle.readings.specs.Columns.{reading_in, readings_in, lent_blocks, lent_blocks_in}
-use Rattle.readings.specs.Lent.{EachColumns}
+use Rattle.readings.specs.Columns.{readings_in, lent_blocks, lent_blocks_in}
 use Rattle.readings.proofs.Laws.{seen_length, columns_all}
 use Rattle.readings.proofs.Columned.{columned, seen_in}
 use Rattle.progress.specs.declared.State.{State}
@@ -35,8 +34,10 @@ use Rattle.close.specs.Closes as file
 use Rattle.close.specs.Closes.{FileFits, report_repr, file_out_of}
 use Rattle.close.proofs.FileClose.{filing_is, file_fits, close_of_lem, close_unended, close_refuses, close_reports}
 use Rattle.answers.specs.declared.Answer.TheVariants.{Refused, Reported}
+use Rattle.answers.specs.declared.lengths.Lengths.{Lengths}
 use Rattle.answers.specs.Refusals.{lengths_fit}
-use Rattle.answers.proofs.Laws.{six}
+use Rattle.answers.proofs.Laws.{by_lengths}
+use Rattle.meaning.proofs.Sizes.{sizes_of}
 use Rattle.close.specs.declared.outcome.call.CloseOutcome.{CloseOutcome}
 use Rattle.answers.specs.Refusals.{ended_refusal}
 use Rattle.close.specs.FirstRefusals.{all_fit}
@@ -80,69 +81,61 @@ module _ (s : Rec) (w : Blocks) (e : (sizes_fit w && (rec_fits s && contents_fit
       let t = report_site s w l in
       rw (close_of_lem s w e h, r.result, r.level, r.points, ap (λ (x : FileReport). x.years) r.closing, t.0, t.1)
 
-module _ (st : State) (n : ℕ) (p : Progress) (near far slots daily : List ℕ) (k : Columns) (r : ℕ) (c : List ℕ) (m : Result (Unit {0}) Refusal)
-    (asked : m ≡ ended_refusal (all_fit (rec_of st n p) r (length c) (lent_blocks_in near far slots daily k.positions k.indexes k.kinds [])) (state_view st) p.last) where
-  -- the blocks with the readings of the columns, and a curve
+module _ (st : State) (n : ℕ) (p : Progress) (near far slots daily : List ℕ) (rs : List Reading) (c : List ℕ) (k : Columns) (copied : k ≡ columns_of rs) (m : Result (Unit {0}) Refusal) where
+  abbrev s : Rec
+  s = rec_of st n p
+
+  -- the lent blocks with a curve, as they are and with the readings of the columns
+  abbrev lent : List ℕ → Blocks
+  lent y = lent_blocks near far slots daily (readings_view rs) y
+
   abbrev held : List ℕ → Blocks
   held y = lent_blocks_in near far slots daily k.positions k.indexes k.kinds y
 
+  abbrev lengths : Lengths
+  lengths = record { near = length near; far = length far; slots = length slots; daily = length daily; readings = length rs; curve = length c }
+
+  whole : sizes_fit (lent c) ≡ true → length rs ≡ readings_size
+  whole e = sym (seen_length rs) ∙ (sizes_of (lent c) (rw e tt)).readings
+
   -- the readings of the columns are those of the list where it has 600
-  same : (rs : List Reading) → length rs ≡ r → k ≡ columns_of rs → r ≡ readings_size → readings_in k.positions k.indexes k.kinds readings_size ≡ readings_view rs
-  same rs er ek z = rw (ek ∙ columns_all rs (er ∙ z)) (seen_in rs (er ∙ z))
+  same : sizes_fit (lent c) ≡ true → readings_in k.positions k.indexes k.kinds readings_size ≡ readings_view rs
+  same e = rw (copied ∙ columns_all rs (whole e)) (seen_in rs (whole e))
 
-  -- ---- 1, 13 and 14
-  stop_is : (rs : List Reading) → length rs ≡ r → k ≡ columns_of rs
-      → m ≡ ended_refusal (sizes_fit (lent_blocks near far slots daily (readings_view rs) c) && (rec_fits (rec_of st n p) && contents_fit (rec_of st n p) (lent_blocks near far slots daily (readings_view rs) c))) (state_view st) p.last
-  stop_is rs er ek =
-      asked
-      ∙ ap (λ (b : Bool). ended_refusal b (state_view st) p.last)
-      (all_fit_lem (rec_of st n p) (lent_blocks near far slots daily (readings_view rs) c) r k.positions k.indexes k.kinds (seen_length rs ∙ er) (same rs er ek))
+  module _ (asked : m ≡ ended_refusal (all_fit s lengths (held [])) (state_view st) p.last) where
+    stop_is : m ≡ ended_refusal (sizes_fit (lent c) && (rec_fits s && contents_fit s (lent c))) (state_view st) p.last
+    stop_is =
+        let fit : lengths_fit (length near) (length far) (length slots) (length daily) (length rs) (length c) ≡ sizes_fit (lent c) = rw (← seen_length rs) (by_lengths (lent c)) in
+        asked ∙ ap (λ (b : Bool). ended_refusal b (state_view st) p.last) (all_fit_lem s (lent c) lengths k.positions k.indexes k.kinds fit same)
 
-  pub refused_close : (y : Refusal) → m ≡ Err y → (x : State) → x ≡ cond (eqb (refusal_number y) 14) states.Refused st → (o : CloseOutcome) → o ≡ refused_of x n y
-      → EachColumns r k (λ rs. close_outcome_view o n p (lent_blocks near far slots daily (readings_view rs) c) ≡ close_repr (close_of (rec_of st n p) (lent_blocks near far slots daily (readings_view rs) c)))
-  unfolding in_state
-  refused_close y h x ex o e rs er ek =
-      rw (e, ex, refused_where (eqb (refusal_number y) 14) st) (stopped_out (rec_of st n p) (lent_blocks near far slots daily (readings_view rs) c) y (sym h ∙ stop_is rs er ek))
+    -- ---- 1, 13 and 14
+    pub refused_close : (y : Refusal) → m ≡ Err y → (x : State) → x ≡ cond (eqb (refusal_number y) 14) states.Refused st → (o : CloseOutcome) → o ≡ refused_of x n y
+        → close_outcome_view o n p (lent c) ≡ close_repr (close_of s (lent c))
+    unfolding in_state
+    refused_close y h x ex o e = rw (e, ex, refused_where (eqb (refusal_number y) 14) st) (stopped_out s (lent c) y (sym h ∙ stop_is))
 
-  -- ---- none of them
-  module _ {u : Unit {0}} (z : m ≡ Ok u) where
-    passes : (all_fit (rec_of st n p) r (length c) (held []) ≡ true) × (is_open (state_view st) ≡ true) × (p.last ≡ 8)
-    passes = none_refused (all_fit (rec_of st n p) r (length c) (held [])) (state_view st) p.last (sym z ∙ asked)
+    -- ---- none of them
+    module _ {u : Unit {0}} (z : m ≡ Ok u) where
+      passes : ((sizes_fit (lent c) && (rec_fits s && contents_fit s (lent c))) ≡ true) × (is_open (state_view st) ≡ true) × (p.last ≡ 8)
+      passes = none_refused (sizes_fit (lent c) && (rec_fits s && contents_fit s (lent c))) (state_view st) p.last (sym z ∙ stop_is)
 
-    whole : r ≡ readings_size
-    unfolding all_fit lengths_fit
-    whole =
-        let e = (and_both (lengths_fit (length near) (length far) (length slots) (length daily) r (length c)) _ passes.0).0 in
-        let t = six (eqb (length near) points_size) (eqb (length far) points_size) (eqb (length slots) slots_size) (eqb (length daily) daily_size) (eqb r readings_size) (eqb (length c) curve_size) (rw e tt) in
-        eqb→eq r readings_size t.4
+      as_lent : (y : List ℕ) → held y ≡ lent y
+      as_lent y = ap (λ (r : List meant.Reading). lent_blocks near far slots daily r y) (same (and_both (sizes_fit (lent c)) (rec_fits s && contents_fit s (lent c)) passes.0).0)
 
-    read : length (readings_in k.positions k.indexes k.kinds readings_size) ≡ readings_size
-    unfolding readings_in
-    read = length_tab readings_size 0 (reading_in k.positions k.indexes k.kinds)
+      pub fits_file : (length k.positions ≡ 600) × (length k.indexes ≡ 600) × (length k.kinds ≡ 600) → FileFits s.site p.readings s.tallies (held c) k.positions k.indexes k.kinds
+      fits_file long =
+          let fit : (sizes_fit (held c) && (rec_fits s && contents_fit s (held c))) ≡ true = ap (λ (w : Blocks). sizes_fit w && (rec_fits s && contents_fit s w)) (as_lent c) ∙ passes.0 in
+          let ranged : rec_fits s ≡ true = (and_both (rec_fits s) (contents_fit s (held c)) (and_both (sizes_fit (held c)) _ fit).1).0 in
+          file_fits s (held c) (columned near far slots daily k.positions k.indexes k.kinds c p.readings (within s ranged).0 long.0 long.1 long.2) fit passes.2
 
-    fitting : (sizes_fit (held c) && (rec_fits (rec_of st n p) && contents_fit (rec_of st n p) (held c))) ≡ true
-    fitting = sym (all_fit_lem (rec_of st n p) (held c) r k.positions k.indexes k.kinds (read ∙ sym whole) (λ e. refl)) ∙ passes.0
-
-    ranged : rec_fits (rec_of st n p) ≡ true
-    ranged = (and_both (rec_fits (rec_of st n p)) (contents_fit (rec_of st n p) (held c)) (and_both (sizes_fit (held c)) _ fitting).1).0
-
-    pub fits_file : (length k.positions ≡ 600) × (length k.indexes ≡ 600) × (length k.kinds ≡ 600)
-        → FileFits (rec_of st n p).site p.readings (rec_of st n p).tallies (held c) k.positions k.indexes k.kinds
-    fits_file long =
-        file_fits (rec_of st n p) (held c)
-        (columned near far slots daily k.positions k.indexes k.kinds c p.readings (within (rec_of st n p) ranged).0 long.0 long.1 long.2)
-        fitting
-        passes.2
-
-    module _ (f : Result FileReport Refusal) (y : List ℕ) (back : file.file_out f y ≡ file_out_of (filing_held (rec_of st n p).site p.readings (rec_of st n p).tallies true (held c)) c) where
-      told : close_outcome_view (close_outcome_of n p.site f) n p (held y) ≡ close_repr (close_of (rec_of st n p) (held c))
+      pub told_close : (f : Result FileReport Refusal) (y : List ℕ) → file.file_out f y ≡ file_out_of (filing_held s.site p.readings s.tallies true (held c)) c
+          → (o : CloseOutcome) → o ≡ close_outcome_of n p.site f → close_outcome_view o n p (lent y) ≡ close_repr (close_of s (lent c))
       unfolding close_outcome_of with_curve in_state
-      told = go f refl
+      told_close f y back o e = rw e (go f refl)
         where
-          go : (g : Result FileReport Refusal) → f ≡ g → close_outcome_view (close_outcome_of n p.site g) n p (held y) ≡ close_repr (close_of (rec_of st n p) (held c))
-          go (Ok x) e = told_reported (rec_of st n p) (held c) fitting passes.1 passes.2 f y back x e
-          go (Err v) e = told_refused (rec_of st n p) (held c) fitting passes.1 passes.2 f y back v e
+          handed : file.file_out f y ≡ file_out_of (filing_held s.site p.readings s.tallies true (lent c)) c
+          handed = back ∙ ap (λ (w : Blocks). file_out_of (filing_held s.site p.readings s.tallies true w) c) (as_lent c)
 
-      pub told_close : (o : CloseOutcome) → o ≡ close_outcome_of n p.site f
-          → EachColumns r k (λ rs. close_outcome_view o n p (lent_blocks near far slots daily (readings_view rs) y) ≡ close_repr (close_of (rec_of st n p) (lent_blocks near far slots daily (readings_view rs) c)))
-      told_close o e rs er ek = rw (e, ← same rs er ek whole) told
+          go : (g : Result FileReport Refusal) → f ≡ g → close_outcome_view (close_outcome_of n p.site g) n p (lent y) ≡ close_repr (close_of s (lent c))
+          go (Ok x) q = told_reported s (lent c) passes.0 passes.1 passes.2 f y handed x q
+          go (Err v) q = told_refused s (lent c) passes.0 passes.1 passes.2 f y handed v q

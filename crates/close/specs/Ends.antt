@@ -1,5 +1,6 @@
 -- The result of a close: answer, record, ten years and the lent blocks (document 01, Calls).
 use Rattle.std.specs.Prelude.{List, ℕ, replicate, Result, Ok, Err}
+use Rattle.rounding.specs.Units.{in_w}
 use Rattle.meaning.specs.Blocks.{Blocks}
 use Rattle.meaning.specs.Record.{Rec}
 use Rattle.meaning.specs.Calls as meant
@@ -38,7 +39,7 @@ no_years = replicate 10 no_year
 unfoldable pub answer_repr : meant.Answer → Answer
 answer_repr accepted = Accepted
 answer_repr (refused n c) = Refused n c
-answer_repr (reported r) = Reported r.al r.filiere r.level r.points
+answer_repr (reported r) = Reported r.al r.filiere (in_w r.level) r.points
 
 unfoldable pub years_beside : meant.Answer → List YearRow
 years_beside accepted = no_years

@@ -1,6 +1,7 @@
 -- The report of a file: level, points and years (document 01, Calls; The printed sheet).
 use Rattle.std.specs.Prelude.{List, map, ℕ, get_or}
 use Rattle.lists.specs.Lists.{tab}
+use Rattle.rounding.specs.Units.{in_w}
 use Rattle.meaning.specs.Level.{YearReport}
 use Rattle.meaning.specs.Text.{letter_of_case}
 use Rattle.close.specs.declared.outcome.file.YearRow.{YearRow}
@@ -14,7 +15,7 @@ abbrev pub no_year : YearRow
 no_year = year_row 0 0 0
 
 abbrev pub file_report : ℕ → ℕ → List YearRow → FileReport
-file_report l p ys = record { level = l; points = p; years = ys }
+file_report l p ys = record { level = in_w l; points = p; years = ys }
 
 -- ---- the years of a report
 unfoldable pub year_repr : YearReport → YearRow

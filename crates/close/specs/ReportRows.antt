@@ -20,4 +20,4 @@ unfoldable pub rows_in : Years → List Case → List ℕ → List YearRow
 rows_in history cases present = by_history history.count no_year (λ k. row_in (history.first + k) (get_or cases k M) (get_or present k 0))
 
 unfoldable pub reported_by : ℕ → ℕ → Years → List Case → CurveTotals → FileReport
-reported_by al f history cases x = file_report (ncc_of al f x.sum x.counted) x.counted (rows_in history cases x.present)
+reported_by al f history cases x = file_report (ncc_of al f x.sum.0 x.counted) x.counted (rows_in history cases x.present)

@@ -15,6 +15,7 @@ use curve::FileData;
 use progress::Progress;
 use readings::Columns;
 use refusals::Refusal;
+use rounding::Energy;
 use validity::Counted;
 
 // Closes the file of a record, from its progress and the lent blocks, the readings as columns. The curve is computed in an array of its own and
@@ -37,7 +38,7 @@ pub(crate) fn close_file(
     let cases = history::cases_of(site.meter, valid, years);
     let defaults = history::default_years(cases, years);
     // E and daily total by position
-    let mut energies = [0u64; 4392];
+    let mut energies = [Energy(0); 4392];
     let mut totals = [0u64; 4392];
     readings.by_position(blocks.daily, &mut energies, &mut totals);
     let profiled = ProfiledYears {
@@ -53,10 +54,7 @@ pub(crate) fn close_file(
         totals: &totals,
         valid: &valid,
     };
-    let f = curve::fill(site, &file, cases, &tallies.rates, &mut filled);
-    if f.exceeds {
-        return Err(Refusal::TooHigh);
-    }
+    let found = curve::fill(site, &file, cases, &tallies.rates, &mut filled)?;
     curve.copy_from_slice(&filled);
-    Ok(reported(site, history, cases, f))
+    Ok(reported(site, history, cases, found))
 }

@@ -6,7 +6,7 @@ ghost use Rattle.answers.specs.Refusals.{ended_refusal};
 ghost use Rattle.close.specs.Lent.{lent_columns};
 ghost use Rattle.close.specs.FirstRefusals.{FoundFit, all_fit};
 
-use crate::{LentReadings, ReadBlocks};
+use crate::ReadBlocks;
 use answers::{Lengths, ended_refusal};
 use calendar::{axis, history};
 use close_checks::contents_fit;
@@ -35,37 +35,27 @@ fn blocks_fit(progress: Progress, blocks: ReadBlocks, columns: &Columns) -> bool
 fn all_fit(
     count: u64,
     progress: Progress,
+    lengths: Lengths,
     blocks: ReadBlocks,
-    readings: &LentReadings,
-    curve: usize,
+    columns: &Columns,
 ) -> bool
-    ensures { (st : State) → result ≡ all_fit (rec_of st count progress) readings.now.listed curve (lent_columns blocks.entry readings.now.columns []) }
+    ensures { (st : State) → result ≡ all_fit (rec_of st count progress) lengths (lent_columns blocks.entry columns.now []) }
 {
-    let lengths = Lengths {
-        near: blocks.near.len(),
-        far: blocks.far.len(),
-        slots: blocks.slots.len(),
-        daily: blocks.daily.len(),
-        readings: readings.listed,
-        curve,
-    };
-    lengths.fit()
-        && record_fits(count, &progress)
-        && blocks_fit(progress, blocks, &readings.columns)
+    lengths.fit() && record_fits(count, &progress) && blocks_fit(progress, blocks, columns)
 }
 
-// The refusal 1, 13 or 14. The curve comes by its length. The record comes by its parts, since its type stands with its calls, above; a struct of state,
-// count and progress would be the record under a second name.
+// The refusal 1, 13 or 14. The record comes by its parts, since its type stands with its calls, above; a struct of state, count and progress would be
+// the record under a second name.
 pub(crate) fn close_refusal(
     state: State,
     count: u64,
     progress: Progress,
+    lengths: Lengths,
     blocks: ReadBlocks,
-    readings: &LentReadings,
-    curve: usize,
+    columns: &Columns,
 ) -> Result<(), Refusal>
-    ensures { result ≡ ended_refusal (all_fit (rec_of state count progress) readings.now.listed curve (lent_columns blocks.entry readings.now.columns [])) (state_view state) progress.last }
+    ensures { result ≡ ended_refusal (all_fit (rec_of state count progress) lengths (lent_columns blocks.entry columns.now [])) (state_view state) progress.last }
 {
-    let fit = all_fit(count, progress, blocks, readings, curve);
+    let fit = all_fit(count, progress, lengths, blocks, columns);
     ended_refusal(fit, state, progress.last)
 }

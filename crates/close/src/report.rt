@@ -30,14 +30,19 @@ fn rows(history: Years, cases: [Case; 10], present: [u64; 10]) -> [YearRow; 10]
 }
 
 #[tactic(auto, unfolding(crate::specs::ReportRows::reported_by))]
-pub(crate) fn reported(site: Site, history: Years, cases: [Case; 10], f: CurveTotals) -> FileReport
+pub(crate) fn reported(
+    site: Site,
+    history: Years,
+    cases: [Case; 10],
+    found: CurveTotals,
+) -> FileReport
     requires first_bound { history.first ≤ 2021 }
-    requires counted_nonzero { (0 < f.counted) × (f.counted ≤ 4400) × (f.sum ≤ 20_000_000_000_000 * f.counted) }
-    ensures { result ≡ reported_by site.al site.filiere history cases f }
+    requires counted_nonzero { (0 < found.counted) × (found.counted ≤ 4400) × (found.sum.0 ≤ 20_000_000_000_000 * found.counted) }
+    ensures { result ≡ reported_by site.al site.filiere history cases found }
 {
     FileReport {
-        level: curve::ncc(site.al, site.filiere, f.sum, f.counted),
-        points: f.counted,
-        years: rows(history, cases, f.present),
+        level: curve::ncc(site.al, site.filiere, found.sum, found.counted),
+        points: found.counted,
+        years: rows(history, cases, found.present),
     }
 }

@@ -104,7 +104,7 @@ module _ (t : Site) (n : ℕ) (k : Tallies) (e : Bool) (w : Blocks) where
         ap (λ (m : ℕ). eqb m 0)
         (total_held t n k e w cols fit i h
         ∙ sym (get_d_tab0 4392 (total_at ps w.daily n) (interval_start ps i) 0 (rise.below i (omega arith))
-        ∙ ap (of_interval (total_in ps w.daily)) (around_here ps n rise i (interval_start ps i) h (omega arith) (rise.rises i h))))
+        ∙ ap (of_interval 0 (total_in ps w.daily)) (around_here ps n rise i (interval_start ps i) h (omega arith) (rise.rises i h))))
 
     pub zero_held : close_holds zero_total (filing_held t n k e w) ≡ some_winter (history_of_site t).count valid ps n (totals_zero ps (totals_of ps w.daily n))
     unfolding close_holds

@@ -1,8 +1,8 @@
 -- 15, 16 and 17 in order of checking, from the dates by year, the valid-index and default-power years and the columns (document 01, Stops that come
 -- from the state).
-use Rattle.std.specs.Prelude.{Bool, ◌||◌, cond, List, ℕ, Result, Ok, Err}
+use Rattle.std.specs.Prelude.{Bool, ◌||◌, cond, List, ℕ, Result, Ok}
 use Rattle.refusals.specs.declared.Refusal.{Refusal}
-use Rattle.refusals.specs.declared.Refusal.TheVariants.{Partial, NoData, ZeroTotal}
+use Rattle.refusals.specs.Refusals.{refused_by}
 use Rattle.close_checks.specs.Totals.{some_winter, totals_zero}
 use Rattle.validity.specs.Dates.{partial_dates, lacks_profiles}
 use Rattle.calendar.specs.declared.Years.{Years}
@@ -10,7 +10,7 @@ use Rattle.close_checks.specs.Closing.{misses_days}
 
 -- from whether each holds
 unfoldable pub first_refusal : Bool → Bool → Bool → Result (Unit {0}) Refusal
-first_refusal partial lacking zero = cond partial (Err Partial) (cond lacking (Err NoData) (cond zero (Err ZeroTotal) (Ok tt)))
+first_refusal partial lacking zero = cond partial (refused_by 15) (cond lacking (refused_by 16) (cond zero (refused_by 17) (Ok tt)))
 
 -- from P and D dates by year, valid indexes and default power by history year, n positions, and the daily total around each day
 unfoldable pub data_refusal : Years → List ℕ → List ℕ → List Bool → List Bool → List ℕ → ℕ → List ℕ → Result (Unit {0}) Refusal

@@ -16,6 +16,7 @@ use Rattle.lists.proofs.Tables.{tab_same}
 use Rattle.lists.proofs.Ranges.{map_tab}
 use Rattle.lists.proofs.Tests.{or_split, is_false}
 use Rattle.calendar.specs.Spans.{history_years}
+use Rattle.rounding.specs.declared.Energy.{Energy}
 use Rattle.note.specs.Peaks.{peak_days, peak_count}
 use Rattle.note.proofs.PeakDays.{days_length}
 use Rattle.meaning.specs.Filing.{Site, Filing, history_of}
@@ -29,7 +30,7 @@ use Rattle.history.specs.declared.cases.Case.{Case}
 use Rattle.history.specs.Years.{cas_from}
 use Rattle.curve.specs.PlaceSums.{point_in, exceeds_in, place_sum_of, entry_in}
 use Rattle.curve.specs.YearPlaces.{FileData, file_data}
-use Rattle.curve.specs.Places.{places_of, all_places_in, site_factors_of, present_years, curve_totals_of, curve_entry_in, curve_in, ncc_of}
+use Rattle.curve.specs.Places.{places_of, all_places_in, site_factors_of, some_exceeds, present_years, curve_totals_of, curve_entry_in, curve_in, ncc_of}
 use Rattle.curve.proofs.PlaceSums.{any_join}
 use Rattle.curve.proofs.Filings.{map_each, Means, few, year_is, all_is}
 
@@ -88,7 +89,7 @@ day_entry g P (w ∷ ws) (suc j) h d l =
     ∙ day_entry g P ws j h d l
     ∙ ap (λ (v : Bool). cond v (g (P (get_or ws j 0) h)) d) (sym (next_below j (length ws)))
 
-module _ (t : Site) (n : ℕ) (r : Tallies) (e : Bool) (b : Blocks) (energies totals : List ℕ) (curves indexes : List Bool) (cases : List Case)
+module _ (t : Site) (n : ℕ) (r : Tallies) (e : Bool) (b : Blocks) (energies : List Energy) (totals : List ℕ) (curves indexes : List Bool) (cases : List Case)
     (m : Means (filing_held t n r e b) energies totals curves indexes cases) where
   abbrev F : Filing
   F = filing_held t n r e b
@@ -109,8 +110,8 @@ module _ (t : Site) (n : ℕ) (r : Tallies) (e : Bool) (b : Blocks) (energies to
   all_places_lem = all_is t n r e b energies totals curves indexes cases m
 
   -- 18
-  pub exceeds_is : (curve_totals_of B L cases r.rates).exceeds ≡ close_holds too_high F
-  unfolding curve_totals_of place_sum_of exceeds_in close_holds
+  pub exceeds_is : some_exceeds B L cases r.rates ≡ close_holds too_high F
+  unfolding some_exceeds exceeds_in close_holds
   exceeds_is = ap (any (λ (q : CurvePlace). source_exceeds q.source)) all_places_lem
 
   module _ (fine : T (not (close_holds too_high F))) where
@@ -122,7 +123,7 @@ module _ (t : Site) (n : ℕ) (r : Tallies) (e : Bool) (b : Blocks) (energies to
     unfolding points_in
     all_points = ap (λ (qs : List CurvePlace). present (map point_in qs)) all_places_lem ∙ ap present (points_taken (all_places F) all_quiet)
 
-    pub sum_is : (curve_totals_of B L cases r.rates).sum ≡ sum (points_in (all_places F))
+    pub sum_is : (curve_totals_of B L cases r.rates).sum.0 ≡ sum (points_in (all_places F))
     unfolding curve_totals_of place_sum_of
     sum_is = ap sum all_points
 
@@ -130,7 +131,7 @@ module _ (t : Site) (n : ℕ) (r : Tallies) (e : Bool) (b : Blocks) (energies to
     unfolding curve_totals_of place_sum_of counted
     counted_is = ap length all_points
 
-    pub ncc_is : ncc_of t.al t.filiere (curve_totals_of B L cases r.rates).sum (curve_totals_of B L cases r.rates).counted ≡ ncc F
+    pub ncc_is : ncc_of t.al t.filiere (curve_totals_of B L cases r.rates).sum.0 (curve_totals_of B L cases r.rates).counted ≡ ncc F
     unfolding ncc_of ncc coefficient_of filing_held
     ncc_is = rw (sum_is, counted_is)
 

@@ -17,6 +17,8 @@ use Rattle.lists.proofs.Tests.{is_true}
 use Rattle.calendar.specs.Spans.{among, is_known, history_years, history_length}
 use Rattle.calendar.specs.Places.{has_winter_date}
 use Rattle.calendar.proofs.Laws.{among_words, history_short, known_history}
+use Rattle.rounding.specs.declared.Energy.{Energy}
+use Rattle.rounding.specs.Units.{in_wh}
 use Rattle.note.specs.Coefficients.{ca_of}
 use Rattle.note.proofs.PeakDays.{each_winter}
 use Rattle.meaning.specs.Filing.{Site, Filing, history_of, years_in, history_list}
@@ -53,15 +55,15 @@ unfolding donor_by
 no_donor ca = refl
 
 -- ---- the lists of a filing: E and daily total by position, valid curves, valid indexes and cases by history year
-pub record Means (F : Filing) (energies totals : List ℕ) (curves indexes : List Bool) (cases : List Case) : Type 0 where
+pub record Means (F : Filing) (energies : List Energy) (totals : List ℕ) (curves indexes : List Bool) (cases : List Case) : Type 0 where
   pub known : T (is_known F.site.al F.site.filiere)
   pub around : (k w p : ℕ) → k < (history_of F).count → w < 152
-      → profiled_in F (interval_at F ((history_of F).first + k) w) p ≡ by_profile (get_or energies (position_in k w) 0) p (get_or totals (position_in k w) 0)
+      → profiled_in F (interval_at F ((history_of F).first + k) w) p ≡ by_profile (get_or energies (position_in k w) (in_wh 0)).0 p (get_or totals (position_in k w) 0)
   pub curves_valid : (k : ℕ) → k < (history_of F).count → get_or curves k false ≡ curve_valid F ((history_of F).first + k)
   pub indexes_valid : (k : ℕ) → k < (history_of F).count → get_or indexes k false ≡ index_valid F ((history_of F).first + k)
   pub cases_are : (k : ℕ) → k < (history_of F).count → case_view (get_or cases k M) ≡ case_of F ((history_of F).first + k)
 
-module _ (t : Site) (n : ℕ) (r : Tallies) (e : Bool) (b : Blocks) (energies totals : List ℕ) (curves indexes : List Bool) (cases : List Case)
+module _ (t : Site) (n : ℕ) (r : Tallies) (e : Bool) (b : Blocks) (energies : List Energy) (totals : List ℕ) (curves indexes : List Bool) (cases : List Case)
     (m : Means (filing_held t n r e b) energies totals curves indexes cases) where
   abbrev F : Filing
   F = filing_held t n r e b

@@ -8,20 +8,23 @@ use lib.Dec.{T, ltb}
 use lib.ListN.{get_or, take, drop, length-take, get_or-eq_default}
 use lib.Seq.{get_or-take, get_or-drop}
 use borrow.Author.Tests.{ltb-true, ltb-false}
+use Rattle.lists.specs.Lists.{any}
 use Rattle.lists.proofs.Tables.{tab_same}
 use Rattle.calendar.specs.Spans.{is_known, history_years, axis_years}
 use Rattle.calendar.proofs.Laws.{known_axis, history_bounds, history_short}
-use Rattle.meaning.specs.Filing.{Filing, history_of, axis_of, years_in, history_list}
+use Rattle.meaning.specs.Filing.{Filing, Meter, no_meter, curve_meter, index_meter, history_of, axis_of, years_in, history_list}
 use Rattle.meaning.specs.Validity.{curve_valid, index_valid}
-use Rattle.meaning.specs.Cases.{Case, case_m, case1, case2, case3, case4, case_p, case5, case6, Mark, case_by, mark_of, marks_of, case_of}
+use Rattle.meaning.specs.Cases.{Case, case_m, case1, case2, case3, case4, case_p, case5, case6, Mark, curve_case, index_case, case_by, mark_of, marks_of, case_of}
 use Rattle.meaning.specs.Points.{position_at}
 use Rattle.meaning.specs.Blocks.{missing_point, row_size, is_near, near_start, far_start}
 use Rattle.blocks.specs.Rows.{holds_year, part, row_of}
 use Rattle.history.specs.Cases.{mark_in, marks_in, case_in, cases_of, case_repr, case_view}
 use Rattle.history.specs.Years.{position_in}
 use Rattle.history.specs.declared.cases.Case.TheVariants.{M}
-use Rattle.history.proofs.YearTables.{at_year}
+use Rattle.history.proofs.YearTables.{at_year, past_years}
 use Rattle.points.specs.OwnFits.{is_point, PointsFit}
+use Rattle.points.specs.Sources.{is_profiled}
+use Rattle.curve.specs.Fits.{ProfiledFit}
 use Rattle.curve.proofs.Filings.{map_range}
 
 -- ---- positions
@@ -66,6 +69,38 @@ told_meant case4 = refl
 told_meant case_p = refl
 told_meant case5 = refl
 told_meant case6 = refl
+
+-- a profiled year has a valid index
+of_curve_case : (c i some_curve some_index : Bool) → T (is_profiled (cond c case_m (cond i case1 (cond some_curve case2 (cond some_index case3 case4))))) → T i
+of_curve_case true i a b t = absurd t
+of_curve_case false true a b t = tt
+of_curve_case false false true b t = absurd t
+of_curve_case false false false true t = absurd t
+of_curve_case false false false false t = absurd t
+
+of_index_case : (i some_index : Bool) → T (is_profiled (cond i case_p (cond some_index case5 case6))) → T i
+of_index_case true b t = tt
+of_index_case false true t = absurd t
+of_index_case false false t = absurd t
+
+of_case : (m : Meter) (ks : List Mark) (k : Mark) → T (is_profiled (case_by m ks k)) → T k.index
+unfolding curve_case index_case case_by
+of_case no_meter ks k = of_index_case k.index (any (λ (j : Mark). j.index) ks)
+of_case curve_meter ks k = of_curve_case k.curve k.index (any (λ (j : Mark). j.curve) ks) (any (λ (j : Mark). j.index) ks)
+of_case index_meter ks k = of_index_case k.index (any (λ (j : Mark). j.index) ks)
+
+pub profiled_fit_lem : (m : Meter) (n : ℕ) (curves indexes : List Bool) → n ≤ 10 → ProfiledFit (cases_of m n curves indexes) indexes
+unfolding cases_of case_in mark_in
+profiled_fit_lem m n curves indexes s k = go (ltb k n) refl
+  where
+    year : ℕ → Rattle.history.specs.declared.cases.Case.Case
+    year = case_in m n curves indexes
+
+    go : (b : Bool) → ltb k n ≡ b → T (is_profiled (case_view (get_or (cases_of m n curves indexes) k M))) → T (get_or indexes k false)
+    go true e t =
+        of_case m (marks_in n curves indexes) (mark_in curves indexes k)
+        (rw (at_year M year n k M (ltb-true k n e) s, told_meant (case_by m (marks_in n curves indexes) (mark_in curves indexes k))) at t)
+    go false e t = absurd (rw (past_years M year n k (ltb-false k n e)) at t)
 
 module _ (F : Filing) (curves indexes : List Bool) (t : T (is_known F.site.al F.site.filiere))
     (c : (k : ℕ) → k < (history_of F).count → get_or curves k false ≡ curve_valid F ((history_of F).first + k))

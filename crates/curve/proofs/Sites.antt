@@ -15,11 +15,12 @@ use Rattle.lists.proofs.Laws.{length_tab, get_d_tab0}
 use Rattle.calendar.specs.declared.Years.{Years}
 use Rattle.calendar.specs.Spans.{history_years}
 use Rattle.calendar.proofs.Laws.{among_words, history_bounds, history_short, history_year_lem}
+use Rattle.rounding.specs.declared.Energy.{Energy}
 use Rattle.note.specs.Coefficients.{ca_of}
 use Rattle.note.proofs.Factors.{theta_most}
 use Rattle.note.proofs.History.{ca_not_zero, ca_at_most}
 use Rattle.history.specs.Years.{cas_from, cas_sum}
-use Rattle.history.specs.Fits.{AtMost}
+use Rattle.history.specs.Fits.{AtMost, NonzeroTotals}
 use Rattle.curve.specs.YearPlaces.{file_data}
 use Rattle.curve.specs.Places.{site_factors_of}
 use Rattle.curve.specs.PlaceFits.{FileDataFits}
@@ -94,8 +95,9 @@ module _ (al f ps : ℕ) (s : SiteFits al f ps) where
   unfolding site_factors_of span
   site_cas = cas_fit
 
-  pub held_fits : (near far profiles es ts : List ℕ) (cs is : List Bool) (rs : List ℕ) → ListsFit al near far profiles es ts rs
+  pub held_fits : (near far profiles : List ℕ) (es : List Energy) (ts : List ℕ) (cs is : List Bool) (rs : List ℕ) → ListsFit al near far profiles es ts rs
+      → NonzeroTotals (site_factors_of al f ps).first is ts
       → FileDataFits (site_factors_of al f ps) (file_data near far profiles es ts cs is (cas_from (site_factors_of al f ps).first f))
   unfolding site_factors_of
-  held_fits near far profiles es ts cs is rs g =
-      record { points = g.points; slots = g.slots; energies = g.energies; totals = g.totals; cas = site_cas }
+  held_fits near far profiles es ts cs is rs g n =
+      record { points = g.points; slots = g.slots; energies = g.energies; totals = g.totals; nonzero = n; cas = site_cas }

@@ -5,14 +5,16 @@ use mathlib.Core.Bool.{Bool, true, false}
 use Prim.Native.Nat.{ℕ, suc, ◌+◌, ◌-◌, ◌≤◌, ◌<◌}
 use native.Mathlib.Numerals.{add-one}
 use native.Mathlib.Omega.{arith}
-use lib.Dec.{ltb}
+use lib.Dec.{T, ltb}
 use borrow.Author.Tests.{ltb-true, ltb-false}
 use lib.ListN.{length, get_or, set, drop, drop_of_length-le, get_or-eq_default}
 use lib.Seq.{sets, drop-cons}
-use Rattle.history.specs.Fits.{AtMost}
+use Rattle.history.specs.Fits.{AtMost, EnergiesAtMost, NonzeroTotals}
 use Rattle.lists.specs.Lists.{tab, flat}
 use Rattle.lists.proofs.Laws.{length_tab, get_d_tab0}
 use Rattle.lists.proofs.FilledTables.{tab_on, tab_end}
+use Rattle.lists.proofs.Tests.{and_made}
+use Rattle.calendar.specs.Places.{has_winter_date}
 use Rattle.note.specs.Peaks.{peak_days, peak_count}
 use Rattle.note.proofs.PeakDays.{days_length}
 use Rattle.meaning.specs.Cases.{Case}
@@ -25,7 +27,7 @@ use Rattle.history.specs.Years.{no_year, year_on, years_on, position_in}
 use Rattle.points.specs.Sources.{Day, day, source_in}
 use Rattle.points.specs.Fits.{RateFits, YearFits, DayFits}
 use Rattle.curve.specs.declared.place_sums.PlaceSum.{PlaceSum}
-use Rattle.curve.specs.PlaceSums.{place_sum, place_sum_of, entries_of, plus, entry_of_point, sum_of_point, place}
+use Rattle.curve.specs.PlaceSums.{place_sum_of, entries_of, nothing, plus, after_rate, entry_of_point, sum_of_point, place}
 use Rattle.curve.specs.YearPlaces.{FileData, day_in, places_on, places_in}
 use Rattle.curve.specs.PlaceSumFits.{PlaceSumFits}
 use Rattle.curve.specs.PlaceFits.{Entered, FileDataFits}
@@ -36,7 +38,7 @@ pub record Walked (n at : ℕ) (all rest : List CurvePlace) (before present : Li
   pub sums : plus t (place_sum_of rest) ≡ place_sum_of all
   pub curve : sets present i (entries_of rest) ≡ sets before at (entries_of all)
 
-pub not_begun : (at : ℕ) (all : List CurvePlace) (l : List ℕ) (i : ℕ) → i ≡ at → Walked 0 at all all l l i (place_sum false 0 0)
+pub not_begun : (at : ℕ) (all : List CurvePlace) (l : List ℕ) (i : ℕ) → i ≡ at → Walked 0 at all all l l i nothing
 not_begun at all l i e = record { fits = nothing_fits; sums = nothing_plus (place_sum_of all); curve = ap (λ (j : ℕ). sets l j (entries_of all)) e }
 
 pub walk_on : (n at m : ℕ) (all xs ys : List CurvePlace) (before now later : List ℕ) (i j : ℕ) (t d : PlaceSum) → Walked n at all (xs ++ ys) before now i t → Entered m i xs now later d
@@ -53,14 +55,14 @@ unfolding entries_of
 walk_over n at all before now i t w = record { tally = sym (plus_nothing t) ∙ w.sums; fits = w.fits; curve = w.curve }
 
 -- ---- one place
-pub one_entered : (rate : ℕ) (s : Source) (f : PlacePoint) (entry i : ℕ) (l : List ℕ) → PlacePointIs s f → RateFits rate → entry ≡ entry_of_point rate f
-    → Entered 1 i (place rate s ∷ []) l (set l i entry) (sum_of_point entry f)
+pub one_entered : (rate : ℕ) (s : Source) (f : PlacePoint) (i : ℕ) (l : List ℕ) → PlacePointIs s f → RateFits rate
+    → Entered 1 i (place rate s ∷ []) l (set l i (entry_of_point (after_rate rate f))) (sum_of_point (after_rate rate f))
 unfolding entries_of
-one_entered rate s f entry i l x r e =
+one_entered rate s f i l x r =
     record {
-      tally = tally_is rate s f entry x e;
-      fits = one_fits rate f entry r x.fits e;
-      curve = ap (λ (v : ℕ). set l i v) (e ∙ entry_is rate s f x);
+      tally = tally_is rate s f x;
+      fits = one_fits rate f r x.fits;
+      curve = ap (λ (v : ℕ). set l i v) (entry_is rate s f x);
     }
 
 -- ---- the half-hours of a day from h on
@@ -114,17 +116,18 @@ pub entered_more : (n m at : ℕ) (qs : List CurvePlace) (before now : List ℕ)
 entered_more n m at qs before now t h e =
     record { tally = e.tally; fits = record { sum = e.fits.sum; counted = omega (arith, e.fits.counted) }; curve = e.curve }
 
--- ---- bounds on E and daily total bound those of a day
-years_fit : (first : ℕ) (l : FileData) (w : ℕ) → AtMost 1000000000000 l.energies → AtMost 13815826560 l.totals → (k : ℕ) → YearFits (get_or (years_on l.energies l.totals l.indexes first w) k no_year)
+-- ---- a year on a winter day
+-- bounds on E and daily total bound those of a day, and 17 bounds a donor's from below
+years_fit : (first : ℕ) (l : FileData) (w : ℕ) → EnergiesAtMost 1000000000000 l.energies → AtMost 13815826560 l.totals → NonzeroTotals first l.indexes l.totals → (k : ℕ) → YearFits (get_or (years_on l.energies l.totals l.indexes first w) k no_year)
 unfolding years_on year_on
-years_fit first l w e t k = go (ltb k 10) refl
+years_fit first l w e t n k = go (ltb k 10) refl
   where
     on : ℕ → YearOnDay
     on j = year_on l.energies l.totals l.indexes first w j
 
     go : (b : Bool) → ltb k 10 ≡ b → YearFits (get_or (tab 10 0 on) k no_year)
-    go true q = rw (get_d_tab0 10 on k no_year (ltb-true k 10 q)) (record { energy = e (position_in k w); total = t (position_in k w) })
-    go false q = rw (get_or-eq_default (tab 10 0 on) no_year {n = k} (omega (arith, length_tab 10 0 on, ltb-false k 10 q))) (record { energy = omega arith; total = omega arith })
+    go true q = rw (get_d_tab0 10 on k no_year (ltb-true k 10 q)) (record { energy = e (position_in k w); total = t (position_in k w); nonzero = n k w })
+    go false q = rw (get_or-eq_default (tab 10 0 on) no_year {n = k} (omega (arith, length_tab 10 0 on, ltb-false k 10 q))) (record { energy = omega arith; total = omega arith; nonzero = λ u. absurd u })
 
 pub day_fits_lem : (b : SiteFactors) (l : FileData) (w : ℕ) → FileDataFits b l → DayFits b (day_in b.first l w)
 unfolding day_in
@@ -132,9 +135,16 @@ day_fits_lem b l w f =
     record {
       points = f.points;
       slots = f.slots;
-      years = years_fit b.first l w f.energies f.totals;
+      years = years_fit b.first l w f.energies f.totals f.nonzero;
       cas = f.cas;
     }
+
+-- a valid index year is a donor on a day that it has
+pub own_index : (first : ℕ) (l : FileData) (w k : ℕ) → k < 10 → T (get_or l.indexes k false) → T (has_winter_date (first + k) w)
+    → T (get_or (years_on l.energies l.totals l.indexes first w) k no_year).is_donor
+unfolding years_on year_on
+own_index first l w k h v d =
+    rw (get_d_tab0 10 (year_on l.energies l.totals l.indexes first w) k no_year h) (and_made (get_or l.indexes k false) (has_winter_date (first + k) w) v d)
 
 -- what was looked up for a day is what its points are computed from
 pub day_is : (first : ℕ) (l : FileData) (w : ℕ) (on : List YearOnDay) → on ≡ years_on l.energies l.totals l.indexes first w

@@ -19,7 +19,7 @@ use Rattle.meaning.specs.Points.{CurvePlace}
 use Rattle.meaning.specs.Level.{missing_entry}
 use Rattle.points.specs.declared.own.SiteFactors.{SiteFactors}
 use Rattle.curve.specs.declared.place_sums.PlaceSum.{PlaceSum}
-use Rattle.curve.specs.PlaceSums.{place_sum, place_sum_of, entry_in, entries_of, plus}
+use Rattle.curve.specs.PlaceSums.{place_sum_of, entry_in, entries_of, nothing, plus}
 use Rattle.curve.specs.YearPlaces.{FileData, day_in, places_on, places_in}
 use Rattle.curve.specs.PlaceSumFits.{PlaceSumFits}
 use Rattle.curve.specs.PlaceFits.{Entered}
@@ -131,7 +131,7 @@ pub record YearsWalked (n : ℕ) (qs : ℕ → List CurvePlace) (k : ℕ) (t : P
   pub present_is : present ≡ tab 10 0 (λ j. cond (ltb j k) (place_sum_of (qs j)).counted 0)
   pub curve_is : curve ≡ tab 4400 0 (λ i. cond (ltb (i / 440) k) (get_or (map entry_in (qs (i / 440))) (i % 440) missing_entry) missing_entry)
 
-pub no_years_lem : (n : ℕ) (qs : ℕ → List CurvePlace) (present curve : List ℕ) → present ≡ replicate 10 0 → curve ≡ replicate 4400 missing_entry → YearsWalked n qs 0 (place_sum false 0 0) present curve
+pub no_years_lem : (n : ℕ) (qs : ℕ → List CurvePlace) (present curve : List ℕ) → present ≡ replicate 10 0 → curve ≡ replicate 4400 missing_entry → YearsWalked n qs 0 nothing present curve
 unfolding tab
 no_years_lem n qs present curve p c =
     let e : n - 0 ≡ n = omega arith in

@@ -3,7 +3,7 @@ use Rattle.std.specs.Prelude.{◌≡◌, List, ℕ, length}
 use Rattle.std.proofs.lemmas.List.Edits.{sets}
 use Rattle.meaning.specs.Points.{CurvePlace}
 use Rattle.meaning.specs.Blocks.{slots_size}
-use Rattle.history.specs.Fits.{AtMost}
+use Rattle.history.specs.Fits.{AtMost, EnergiesAtMost, NonzeroTotals}
 use Rattle.points.specs.declared.own.SiteFactors.{SiteFactors}
 use Rattle.points.specs.OwnFits.{PointsFit}
 use Rattle.points.specs.DonorFits.{CasFit}
@@ -15,8 +15,10 @@ use Rattle.curve.specs.YearPlaces.{FileData}
 pub record FileDataFits (b : SiteFactors) (l : FileData) : Type 0 where
   pub points : PointsFit b.al l.near l.far
   pub slots : length l.slots ≡ slots_size
-  pub energies : AtMost 1000000000000 l.energies
+  pub energies : EnergiesAtMost 1000000000000 l.energies
   pub totals : AtMost 13815826560 l.totals
+  -- 17
+  pub nonzero : NonzeroTotals b.first l.indexes l.totals
   pub cas : CasFit b.count l.cas
 
 -- the places qs are entered from place `at` of the curve on

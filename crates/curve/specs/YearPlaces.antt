@@ -2,6 +2,7 @@
 use Rattle.std.specs.Prelude.{Bool, List, map, ℕ, ◌+◌}
 use Rattle.lists.specs.Lists.{tab, flat}
 use Rattle.note.specs.Peaks.{peak_days}
+use Rattle.rounding.specs.declared.Energy.{Energy}
 use Rattle.meaning.specs.Cases.{Case}
 use Rattle.meaning.specs.Points.{CurvePlace}
 use Rattle.history.specs.declared.ValidYears.{ValidYears}
@@ -15,17 +16,17 @@ pub record FileData : Type 0 where
   pub near : List ℕ
   pub far : List ℕ
   pub slots : List ℕ
-  pub energies : List ℕ
+  pub energies : List Energy
   pub totals : List ℕ
   pub curves : List Bool
   pub indexes : List Bool
   pub cas : List ℕ
 
-abbrev pub file_data : List ℕ → List ℕ → List ℕ → List ℕ → List ℕ → List Bool → List Bool → List ℕ → FileData
+abbrev pub file_data : List ℕ → List ℕ → List ℕ → List Energy → List ℕ → List Bool → List Bool → List ℕ → FileData
 file_data n f s e t v i c = record { near = n; far = f; slots = s; energies = e; totals = t; curves = v; indexes = i; cas = c }
 
 -- from the valid years and CA
-abbrev pub file_data_with : List ℕ → List ℕ → List ℕ → List ℕ → List ℕ → ValidYears → List ℕ → FileData
+abbrev pub file_data_with : List ℕ → List ℕ → List ℕ → List Energy → List ℕ → ValidYears → List ℕ → FileData
 file_data_with n f s e t valid c = file_data n f s e t valid.curves valid.indexes c
 
 -- what the points of a winter day are computed from

@@ -1,15 +1,16 @@
 // The NCC.
 ghost use Rattle.std.specs.Prelude.{◌≡◌, ◌≤◌, ◌<◌, ◌*◌};
+ghost use Rattle.rounding.specs.Units.{in_w};
 ghost use Rattle.curve.specs.Places.{ncc_of};
 
-use rounding::Power;
+use rounding::{Power, Watts};
 
-// The NCC in whole watts: C times the mean of the n present points, whose sum is in mW.
+// The NCC: C times the mean of the n present points.
 #[tactic(auto, using(note::proofs::Factors::c_most), unfolding(crate::specs::Places::ncc_of))]
-pub fn ncc(al: u64, filiere: u64, sum: u64, n: u64) -> u64
-    requires { (0 < n) × (n ≤ 4400) × (sum ≤ 20_000_000_000_000 * n) }
-    ensures { result ≡ ncc_of al filiere sum n }
+pub fn ncc(al: u64, filiere: u64, sum: Power, n: u64) -> Watts
+    requires { (0 < n) × (n ≤ 4400) × (sum.0 ≤ 20_000_000_000_000 * n) }
+    ensures { result ≡ in_w (ncc_of al filiere sum.0 n) }
 {
     let c = note::coefficient(al, filiere);
-    rounding::level(c, Power(sum), n)
+    rounding::level(c, sum, n)
 }

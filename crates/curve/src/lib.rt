@@ -4,7 +4,7 @@
 // for the ten years of the longest history, since there is no heap.
 #![tactic(auto)]
 
-mod place_sums; // the entry of a place in the curve, and sums over places
+mod place_sums; // the point of a place after its rate, its entry in the curve, and sums over places
 mod places; // the half-hours of a day and the peak days of a year
 mod whole; // all years of the history
 mod level; // the NCC
@@ -12,6 +12,7 @@ mod level; // the NCC
 use blocks::{HALF_HOURS, ReadBlocks};
 use history::ValidYears;
 pub use level::ncc;
+use rounding::{Energy, Power};
 pub use whole::fill;
 
 // The entries of a year in the curve: those of 22 peak days, the most that a year has.
@@ -22,17 +23,15 @@ pub(crate) const YEAR_ENTRIES: usize = 22 * HALF_HOURS;
 #[derive(Clone, Copy)]
 pub struct FileData<'a> {
     pub blocks: &'a ReadBlocks<'a>,
-    pub energies: &'a [u64; 4392],
+    pub energies: &'a [Energy; 4392],
     pub totals: &'a [u64; 4392],
     pub valid: &'a ValidYears,
 }
 
-// The totals over all places, and the points present by year. No `Result`: each place is entered and summed whether or not another exceeds, so that a
-// year's sums are those of its places alone.
+// The sum of the present points over all places, their number, and the points present by year.
 #[derive(Clone, Copy)]
 pub struct CurveTotals {
-    pub exceeds: bool,
-    pub sum: u64,
+    pub sum: Power,
     pub counted: u64,
     pub present: [u64; 10],
 }

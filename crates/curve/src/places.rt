@@ -1,14 +1,16 @@
 // The half-hours of a day and the peak days of a year: each point is entered in the curve and added to the sums.
-ghost use Rattle.std.specs.Prelude.{◌+◌, ◌*◌, ◌≤◌, ◌<◌};
+ghost use Rattle.std.specs.Prelude.{false, ◌+◌, ◌*◌, ◌≤◌, ◌<◌, T, get_or};
 ghost use Rattle.points.specs.OwnFits.{SiteFactorsFit};
 ghost use Rattle.history.specs.Cases.{case_view};
+ghost use Rattle.history.specs.Years.{no_year};
+ghost use Rattle.points.specs.Sources.{is_profiled};
 ghost use Rattle.points.specs.Days.{day_view};
 ghost use Rattle.points.specs.Fits.{RateFits};
 ghost use Rattle.curve.specs.YearPlaces.{places_on, places_in};
 ghost use Rattle.curve.specs.Files.{file_view};
 ghost use Rattle.curve.specs.PlaceFits.{FileDataFits, Entered};
 
-use crate::place_sums::{NOTHING, PlaceSum, entry_of};
+use crate::place_sums::{NOTHING, PlaceSum, after_rate, entry_of};
 use crate::{FileData, YEAR_ENTRIES};
 use blocks::HALF_HOURS;
 use history::years_on;
@@ -34,14 +36,14 @@ fn half_hours(
 ) -> PlaceSum
     requires rate_fits { RateFits target.rate }
     requires k_lt_count { (target.k < day.now.site.now.count) × (at + 20 ≤ 4400) }
+    requires own_index { T (is_profiled (case_view target.case)) → T (get_or day.now.years.now target.k no_year).is_donor }
     ensures { Entered 20 at (places_on day.now.site.now (day_view day.now) (case_view target.case) target.rate target.k day.now.w) curve.old curve.new result }
 {
     let mut t = NOTHING;
     for h in 0..HALF_HOURS {
-        let point = point_of(day, target, h);
-        let entry = entry_of(point, target.rate);
-        curve[at + h] = entry;
-        t = t.plus(PlaceSum::of(point, entry));
+        let point = after_rate(point_of(day, target, h), target.rate);
+        curve[at + h] = entry_of(point);
+        t = t.plus(PlaceSum::of(point));
     }
     t
 }
@@ -54,6 +56,7 @@ pub(crate) fn year_places(
 ) -> PlaceSum
     requires rate_fits { RateFits target.rate }
     requires k_lt_count { target.k < site_file.now.site.now.count }
+    requires own_index { T (is_profiled (case_view target.case)) → T (get_or site_file.now.file.now.valid.now.indexes target.k false) }
     ensures { Entered 440 (440 * target.k) (places_in site_file.now.site.now (file_view site_file.now.file.now site_file.now.cas.now) (case_view target.case) target.rate target.k) curve.old curve.new result }
 {
     let site = site_file.site;

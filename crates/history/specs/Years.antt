@@ -3,6 +3,8 @@ use Rattle.std.specs.Prelude.{Bool, false, ◌&&◌, cond, List, ℕ, ◌+◌, �
 use Rattle.lists.specs.Lists.{tab, sum}
 use Rattle.calendar.specs.Places.{has_winter_date, date_of_winter}
 use Rattle.note.specs.Coefficients.{ca_of}
+use Rattle.rounding.specs.declared.Energy.{Energy}
+use Rattle.rounding.specs.Units.{in_wh}
 use Rattle.history.specs.declared.YearOnDay.{YearOnDay}
 
 -- ten places by history year: f for the n history years, z for years that the file does not have
@@ -15,18 +17,18 @@ position_in k w = 366 * (k + 1) + date_of_winter w
 
 -- past the ten years
 abbrev pub no_year : YearOnDay
-no_year = record { energy = 0; total = 0; is_donor = false }
+no_year = record { energy = in_wh 0; total = 0; is_donor = false }
 
 -- the k-th year on a winter day, from E and daily total by position and the valid indexes: it is a donor where it has the date
-unfoldable pub year_on : List ℕ → List ℕ → List Bool → ℕ → ℕ → ℕ → YearOnDay
+unfoldable pub year_on : List Energy → List ℕ → List Bool → ℕ → ℕ → ℕ → YearOnDay
 year_on energies totals indexes first w k =
     record {
-      energy = get_or energies (position_in k w) 0;
+      energy = get_or energies (position_in k w) (in_wh 0);
       total = get_or totals (position_in k w) 0;
       is_donor = get_or indexes k false && has_winter_date (first + k) w;
     }
 
-unfoldable pub years_on : List ℕ → List ℕ → List Bool → ℕ → ℕ → List YearOnDay
+unfoldable pub years_on : List Energy → List ℕ → List Bool → ℕ → ℕ → List YearOnDay
 years_on energies totals indexes first w = tab 10 0 (year_on energies totals indexes first w)
 
 -- CA of ten years, and the sum over the n history years

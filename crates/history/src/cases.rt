@@ -1,5 +1,5 @@
 // The case of each history year, the first that fits, and which years have default power (document 01, Cases).
-ghost use Rattle.std.specs.Prelude.{◌≡◌, ◌≤◌};
+ghost use Rattle.std.specs.Prelude.{◌≡◌};
 ghost use Rattle.meaning.specs.Cases.{mark, is_default};
 ghost use Rattle.meaning.specs.Text.{letter_of_case};
 ghost use Rattle.line_form.specs.Views.{meter_view};

@@ -10,6 +10,7 @@ mod winter_days; // each year on a winter day: energy, daily total and index don
 
 pub use ca::{cas_from, cas_sum};
 pub use cases::{Case, cases_of, default_years};
+use rounding::Energy;
 pub use valid::valid_years;
 pub use winter_days::years_on;
 
@@ -21,11 +22,11 @@ pub struct ValidYears {
     pub indexes: [bool; 10],
 }
 
-// A history year on one winter day: E and daily total of the interval around the day, and whether the year is an index donor. No Option: a year's own
-// profiled point is promised whether it is a donor or not.
+// A history year on one winter day: E and daily total of the interval around the day, and whether the year is an index donor. No Option: both
+// numbers are those of the day's position, for every year alike; only an index donor is profiled.
 #[derive(Clone, Copy)]
 pub struct YearOnDay {
-    pub energy: u64,
+    pub energy: Energy,
     pub total: u64,
     pub is_donor: bool,
 }

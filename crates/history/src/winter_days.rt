@@ -5,6 +5,7 @@ ghost use Rattle.history.specs.Fits.{DatePlaceIs};
 
 use crate::YearOnDay;
 use calendar::has_winter_date;
+use rounding::Energy;
 use std::array::from_fn;
 
 // The date place of a winter place.
@@ -18,7 +19,7 @@ fn date_place(w: usize) -> usize
 // Each year on a winter day, from E and daily total by position and the valid indexes. On 29 February only leap years are donors. No
 // history begins after 2021, so no year overflows.
 pub fn years_on(
-    energies: &[u64; 4392],
+    energies: &[Energy; 4392],
     totals: &[u64; 4392],
     indexes: &[bool; 10],
     first: u64,

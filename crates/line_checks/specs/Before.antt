@@ -6,22 +6,12 @@ use Rattle.meaning.specs.Filing.{Meter, no_meter}
 use Rattle.meaning.specs.Line.{Line, Tag, tag_of}
 use Rattle.meaning.specs.Refusals.{Before, is_illegible, is_unknown}
 use Rattle.meaning.specs.Record.{misplaced_by}
-use Rattle.line_form.specs.Fields.{ReadFrom}
-use Rattle.line_form.specs.declared.Fields.{Fields}
 
 -- l is a line of tag t to which neither 2 nor 3 applies
 pub record Known (t : Tag) (l : Line) : Type 0 where
   pub legible : is_illegible l ≡ false
   pub known : is_unknown l ≡ false
   pub tag : tag_of l ≡ t
-
--- Says holds for every such line whose fields f holds
-abbrev pub EachTagged : Tag → Fields → (Line → Type 0) → Type 0
-EachTagged t f Says = (l : Line) → ReadFrom f l → Known t l → Says l
-
--- f holds the fields of such a line
-abbrev pub SomeTagged : Tag → Fields → Type 0
-SomeTagged t f = (l : Line) × ReadFrom f l × Known t l
 
 -- 8: the last date or year of the tag, 0 for none, is this one or a later one
 unfoldable pub is_not_later : ℕ → ℕ → Bool

@@ -7,7 +7,7 @@ use Rattle.lists.specs.Lists.{first_of}
 use Rattle.meaning.specs.Line.{Tag, rank}
 use Rattle.meaning.specs.Refusals.{Reason, illegible, unknown, misplaced, malformed, outside, no_date, not_later, too_soon, falling, too_many, miscounted, order}
 use Rattle.refusals.specs.declared.Refusal.{Refusal}
-use Rattle.refusals.specs.declared.Refusal.TheVariants.{Misplaced, Malformed, Outside, NoDate, NotLater}
+use Rattle.refusals.specs.Refusals.{refusal_of, refused_by}
 use Rattle.line_checks.specs.Before.{is_not_later}
 
 -- which of 4 to 12 hold for a line
@@ -46,10 +46,10 @@ and_then (Err y) f = Err y
 
 -- ---- 4 and 5; 6, 7 and 8
 unfoldable pub in_order : {A : Type 0} → Bool → std.Option A → Result A Refusal
-in_order m r = cond m (Err Misplaced) (ok_or r Malformed)
+in_order m r = cond m (refused_by 4) (ok_or r (refusal_of 5))
 
 unfoldable pub rising_checks : Bool → Bool → ℕ → ℕ → Result Unit Refusal
-rising_checks o d last k = cond o (Err Outside) (cond d (Err NoDate) (cond (is_not_later last k) (Err NotLater) (Ok tt)))
+rising_checks o d last k = cond o (refused_by 6) (cond d (refused_by 7) (cond (is_not_later last k) (refused_by 8) (Ok tt)))
 
 -- 4 for a tag, by the rank of the last tag: no line yet, a later tag, or E
 unfoldable pub is_misplaced : ℕ → Tag → Bool

@@ -3,20 +3,20 @@ ghost use Rattle.std.specs.Prelude.{◌≡◌};
 ghost use Rattle.lists.specs.Lists.{any};
 ghost use Rattle.line_form.specs.Codes.{is_point_outside, is_profile_outside};
 
-use line_form::DASH;
+use rounding::Watts;
 
-// 6 on the points of a C line, where a dash is a missing one.
-pub fn points_outside(codes: &[u64; 20]) -> bool
-    ensures { result ≡ any is_point_outside codes.now }
+// 6 on the points of a C line: a missing one is never outside.
+pub fn points_outside(points: &[Option<Watts>; 20]) -> bool
+    ensures { result ≡ any is_point_outside points.now }
 {
-    codes
+    points
         .iter()
-        .any(|code| *code != DASH && 100_000_000 < *code)
+        .any(|point| point.is_some_and(|read| 100_000_000 < read.0))
 }
 
 // 6 on the values of a P line.
-pub fn profiles_outside(codes: &[u64; 20]) -> bool
-    ensures { result ≡ any is_profile_outside codes.now }
+pub fn profiles_outside(values: &[u64; 20]) -> bool
+    ensures { result ≡ any is_profile_outside values.now }
 {
-    codes.iter().any(|code| 65_535 < *code)
+    values.iter().any(|value| 65_535 < *value)
 }

@@ -13,6 +13,7 @@ use Rattle.text.specs.Numbers.{most}
 use Rattle.meaning.specs.Line.{Line, Tag, S, X, D, B, R, E, tag_of, forms_of, in_range, some_field, number_at, year_on, month_on, day_on, site_on, meter_of, has_date_on, is_winter_tag, most_power, most_index, most_daily}
 use Rattle.meaning.specs.Refusals.{is_outside, has_no_date}
 use Rattle.meaning.specs.Record.{is_within}
+use Rattle.rounding.specs.Units.{in_wh}
 use Rattle.line_form.specs.Views.{site_view}
 use Rattle.line_form.specs.Reads.{capped_at, date_read_of, site_read_of, reading_read_of, daily_read_of, rate_read_of}
 use Rattle.line_form.specs.Ranges.{is_site_outside, is_reading_outside, is_daily_outside, is_year_outside, is_rate_outside, is_count_outside, no_date_for}
@@ -89,11 +90,11 @@ exact_s h l e o =
     let q = or_parts filiere ps p.1 in
     rw (number_exact l 2 2021 2026 (omega arith) p.0, number_exact l 3 1 11 (omega arith) q.0, number_exact l 5 1 most_power (omega arith) q.1, shown (meter_of (field_at l 4)))
 
-pub exact_x : (h : Years) (l : Line) → Early h → tag_of l ≡ X → is_outside h l ≡ false → ((reading_read_of l).date.year ≡ year_on l) × ((reading_read_of l).index ≡ number_at l 4)
+pub exact_x : (h : Years) (l : Line) → Early h → tag_of l ≡ X → is_outside h l ≡ false → ((reading_read_of l).date.year ≡ year_on l) × ((reading_read_of l).index ≡ in_wh (number_at l 4))
 unfolding reading_read_of date_read_of is_reading_outside
 exact_x h l y e o =
     let p = or_parts _ _ (sym (outside_x h l y e) ∙ o) in
-    (year_exact (axis_years h) l 1 (early_axis h y) p.0, above_in l 4 most_index (omega arith) p.1)
+    (year_exact (axis_years h) l 1 (early_axis h y) p.0, ap in_wh (above_in l 4 most_index (omega arith) p.1))
 
 pub exact_d : (h : Years) (l : Line) → Early h → tag_of l ≡ D → is_outside h l ≡ false → ((daily_read_of l).date.year ≡ year_on l) × ((daily_read_of l).sum ≡ number_at l 4)
 unfolding daily_read_of date_read_of is_daily_outside

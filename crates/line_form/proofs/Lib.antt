@@ -3,9 +3,6 @@ pub mod LetterLaws
 pub mod Readers
 pub mod Capped
 pub mod Checks
-pub mod Shaped
-pub mod ReadFields
-pub mod Read
 pub mod TagLaws
 pub mod Rows
 pub mod ValueChecks

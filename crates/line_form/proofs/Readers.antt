@@ -1,122 +1,225 @@
--- What a line says as a chain of its fields: none where one is not in its form.
-use Rattle.std.specs.Prelude.{Option, Some, None, option_and_then}
+-- What the reader of each tag gives, from what it finds of each field: none where one is not in its form, else what the line says.
+use Rattle.std.specs.Prelude.{Some, None}
 use Rattle.std.specs.Bool.{then_some}
 use mathlib.Core.Path.{◌≡◌, refl, sym}
-use mathlib.Core.Bool.{Bool, true, false, ◌&&◌, cond}
-use Prim.Native.Nat.{ℕ, ◌<◌}
-use native.Mathlib.Omega.{arith}
-use lib.ListN.{get_or}
-use Rattle.text.specs.Fields.{field_at, reads, edition}
-use Rattle.text.specs.Numbers.{is_number}
-use Rattle.text.specs.NumberFields.{number_in}
+use mathlib.Core.Bool.{Bool, true, false}
+use mathlib.Core.List.{List}
+use Prim.Native.Nat.{ℕ, min}
+use Rattle.lists.proofs.Tests.{and_false}
+use Rattle.text.specs.Fields.{up_to, past, rest_at, field_at, reads, edition}
+use Rattle.text.specs.Numbers.{is_number, value_of, number_in, most}
 use Rattle.meaning.specs.Filing as meant
-use Rattle.meaning.specs.Filing.{no_meter, curve_meter, index_meter, no_kind}
-use Rattle.meaning.specs.Line.{Line, S, X, D, B, R, E, number_at, meter_of, meter_of_letter, is_meter, kind_of, kind_of_letter, is_kind}
+use Rattle.meaning.specs.Filing.{no_meter, curve_meter, index_meter}
+use Rattle.meaning.specs.Line.{Line, Tag, S, X, D, B, R, E, number_at, meter_of, is_meter, kind_of, is_kind}
+use Rattle.rounding.specs.Units.{in_w, in_wh}
+use Rattle.readings.specs.declared.Kind.{Kind}
 use Rattle.readings.specs.Readings.{kind_repr}
-use Rattle.line_form.specs.Fields.{ReadFrom}
-use Rattle.line_form.specs.Shapes.{field_of, is_edition, byte_of, number_of}
 use Rattle.line_form.specs.declared.Meter.{Meter}
-use Rattle.line_form.specs.declared.Meter.TheVariants.{Curve, Index}
-use Rattle.line_form.specs.declared.Field.{Field}
-use Rattle.line_form.specs.declared.Fields.{Fields}
-use Rattle.line_form.proofs.Shaped.{by_byte, shape_number, shape_edition, shape_meter, shape_kind}
-use Rattle.line_form.proofs.Read.{field_at_lem}
 use Rattle.line_form.specs.Views.{meter_repr}
-use Rattle.line_form.specs.Reads.{capped_at, is_date_formed, where_formed, kind_where, date_read_of, dated_read_of, site_read_of, reading_read_of, daily_read_of, rate_read_of}
+use Rattle.calendar.specs.declared.Date.{Date}
+use Rattle.line_form.specs.Reads.{capped_at, is_formed, is_date_formed, where_formed, kind_where, date_read_of, dated_read_of, site_read_of, reading_read_of, daily_read_of, rate_read_of}
 use Rattle.line_form.proofs.Forms.{formed_site, formed_year, formed_rate, formed_count, formed_reading, formed_daily}
 
--- the number of a field, where it is one
-abbrev pub number_read : Line → ℕ → Option ℕ
-number_read l k = then_some (is_number (field_at l k)) (capped_at l k)
+-- ---- a field: a number or not
+no_number : (f : List ℕ) → None ≡ number_in f → is_number f ≡ false
+unfolding number_in
+no_number f e = go (is_number f) e
+  where
+    go : (b : Bool) → None ≡ then_some b (min (value_of f) most) → b ≡ false
+    go true q = absurd (cc)
+    go false q = refl
 
-module _ (f : Fields) (l : Line) (w : ReadFrom f l) (d : Field) where
-  pub number_here : (k : ℕ) → k < 24 → number_of (get_or f.fields k d) ≡ number_read l k
-  unfolding number_in capped_at number_at
-  number_here k h = rw (field_at_lem l f w k d h) (shape_number (field_at l k))
+a_number : (f : List ℕ) (v : ℕ) → Some v ≡ number_in f → (is_number f ≡ true) × (v ≡ min (value_of f) most)
+unfolding number_in
+a_number f v e = go (is_number f) e
+  where
+    go : (b : Bool) → Some v ≡ then_some b (min (value_of f) most) → (b ≡ true) × (v ≡ min (value_of f) most)
+    go true q = (refl, cc)
+    go false q = absurd (cc)
 
-  -- of a field that is a single byte; none of any other
-  pub kind_here : (o : Option ℕ) → o ≡ byte_of (get_or f.fields 5 d) → kind_where (kind_of (field_at l 5)) ≡ option_and_then (λ b. kind_where (kind_of_letter b)) o
-  unfolding kind_where
-  kind_here o e = rw (e, field_at_lem l f w 5 d (omega arith), shape_kind (field_at l 5)) (go (byte_of (field_of (field_at l 5))))
-    where
-      go : (o : Option ℕ) → kind_where (by_byte no_kind kind_of_letter o) ≡ option_and_then (λ b. kind_where (kind_of_letter b)) o
-      go None = refl
-      go (Some b) = refl
+-- a meter or not, a kind or not
+no_meter_in : (m : meant.Meter) → None ≡ meter_repr m → is_meter m ≡ false
+no_meter_in no_meter e = refl
+no_meter_in curve_meter e = absurd (cc)
+no_meter_in index_meter e = absurd (cc)
 
-  pub meter_here : (o : Option ℕ) → o ≡ byte_of (get_or f.fields 4 d) → meter_repr (meter_of (field_at l 4)) ≡ option_and_then (λ b. meter_repr (meter_of_letter b)) o
-  meter_here o e = rw (e, field_at_lem l f w 4 d (omega arith), shape_meter (field_at l 4)) (go (byte_of (field_of (field_at l 4))))
-    where
-      go : (o : Option ℕ) → meter_repr (by_byte no_meter meter_of_letter o) ≡ option_and_then (λ b. meter_repr (meter_of_letter b)) o
-      go None = refl
-      go (Some b) = refl
+a_meter : (m : meant.Meter) (k : Meter) → Some k ≡ meter_repr m → is_meter m ≡ true
+a_meter no_meter k e = absurd (cc)
+a_meter curve_meter k e = refl
+a_meter index_meter k e = refl
 
-  pub edition_here : is_edition (get_or f.fields 1 d) ≡ reads (field_at l 1) edition
-  edition_here = rw (field_at_lem l f w 1 d (omega arith)) (sym (shape_edition (field_at l 1)))
+no_kind_in : (k : meant.Kind) → None ≡ kind_where k → is_kind k ≡ false
+unfolding kind_where
+no_kind_in k e = go (is_kind k) e
+  where
+    go : (b : Bool) → None ≡ then_some b (kind_repr k) → b ≡ false
+    go true q = absurd (cc)
+    go false q = refl
 
--- two and more fields
-pub both_then : {A C : Type 0} (a b : Bool) (x : A) (y : C) (f : A → Option C) → then_some b y ≡ f x → then_some (a && b) y ≡ option_and_then f (then_some a x)
-both_then true b x y f e = e
-both_then false b x y f e = refl
+a_kind : (k : meant.Kind) (r : Kind) → Some r ≡ kind_where k → (is_kind k ≡ true) × (r ≡ kind_repr k)
+unfolding kind_where
+a_kind k r e = go (is_kind k) e
+  where
+    go : (b : Bool) → Some r ≡ then_some b (kind_repr k) → (b ≡ true) × (r ≡ kind_repr k)
+    go true q = (refl, cc)
+    go false q = absurd (cc)
 
-pub last_one : {A B : Type 0} (b : Bool) (x : A) (f : A → B) → then_some b (f x) ≡ option_and_then (λ u. Some (f u)) (then_some b x)
-last_one true x f = refl
-last_one false x f = refl
+-- ---- a line of a tag
+pub unformed : {A : Type 0} (t : Tag) (l : Line) (a : A) → is_formed t l ≡ false → None ≡ where_formed t l a
+unfolding where_formed
+unformed t l a e = rw e
 
--- a meter and more fields
-meter_then : {C : Type 0} (m : meant.Meter) (b : Bool) (y : C) (f : Meter → Option C) → ((k : Meter) → meter_repr m ≡ Some k → then_some b y ≡ f k)
-    → then_some (is_meter m && b) y ≡ option_and_then f (meter_repr m)
-meter_then no_meter b y f e = refl
-meter_then curve_meter b y f e = e Curve refl
-meter_then index_meter b y f e = e Index refl
+pub formed : {A : Type 0} (t : Tag) (l : Line) (a b : A) → is_formed t l ≡ true → b ≡ a → Some b ≡ where_formed t l a
+unfolding where_formed
+formed t l a b e q = rw (e, q)
+
+-- ---- a date
+module _ (l : Line) where
+  pub no_year_on : None ≡ number_in (up_to (past l)) → dated_read_of l ≡ None
+  unfolding dated_read_of is_date_formed field_at rest_at
+  no_year_on e = rw (no_number _ e)
+
+  pub no_month_on : None ≡ number_in (up_to (past (past l))) → dated_read_of l ≡ None
+  unfolding dated_read_of is_date_formed field_at rest_at
+  no_month_on e = rw (no_number _ e, and_false (is_number (up_to (past l))))
+
+  pub no_day_on : None ≡ number_in (up_to (past (past (past l)))) → dated_read_of l ≡ None
+  unfolding dated_read_of is_date_formed field_at rest_at
+  no_day_on e = rw (no_number _ e, and_false (is_number (up_to (past (past l)))), and_false (is_number (up_to (past l))))
+
+  pub date_on : (y m d : ℕ) → Some y ≡ number_in (up_to (past l)) → Some m ≡ number_in (up_to (past (past l))) → Some d ≡ number_in (up_to (past (past (past l))))
+      → dated_read_of l ≡ Some (record { year = y; month = m; day = d })
+  unfolding dated_read_of is_date_formed date_read_of capped_at number_at field_at rest_at
+  date_on y m d p q r =
+      let py = a_number _ y p in
+      let pm = a_number _ m q in
+      let pd = a_number _ d r in
+      rw (py.0, pm.0, pd.0, py.1, pm.1, pd.1)
+
+-- what is left past a date
+pub past_date : (l r : List ℕ) → r ≡ past (past (past (past l))) → r ≡ rest_at l 4
+unfolding rest_at
+past_date l r e = e
+
+-- what the proof of the date's reader needs
+pub ruleset date_parts = (no_year_on, no_month_on, no_day_on, date_on, past_date)
+
+pub undated : (l : Line) → dated_read_of l ≡ None → is_date_formed l ≡ false
+unfolding dated_read_of
+undated l e = go (is_date_formed l) e
+  where
+    go : (b : Bool) → then_some b (date_read_of l) ≡ None → b ≡ false
+    go true q = absurd (cc)
+    go false q = refl
+
+pub dated_on : (l : Line) (d : Date) → dated_read_of l ≡ Some d → (is_date_formed l ≡ true) × (d ≡ date_read_of l)
+unfolding dated_read_of
+dated_on l d e = go (is_date_formed l) e
+  where
+    go : (b : Bool) → then_some b (date_read_of l) ≡ Some d → (b ≡ true) × (d ≡ date_read_of l)
+    go true q = (refl, cc)
+    go false q = absurd (cc)
 
 -- ---- by tag
 module _ (l : Line) where
-  pub year_read : where_formed B l (capped_at l 1) ≡ number_read l 1
-  unfolding where_formed
+  -- S
+  pub no_edition : false ≡ reads (up_to (past l)) edition → None ≡ where_formed S l (site_read_of l)
+  unfolding field_at rest_at
+  no_edition e = unformed S l _ (rw (formed_site l, sym e))
+
+  pub no_al : None ≡ number_in (up_to (past (past l))) → None ≡ where_formed S l (site_read_of l)
+  unfolding field_at rest_at
+  no_al e = unformed S l _ (rw (formed_site l, no_number _ e) (and_false _))
+
+  pub no_filiere : None ≡ number_in (up_to (past (past (past l)))) → None ≡ where_formed S l (site_read_of l)
+  unfolding field_at rest_at
+  no_filiere e = unformed S l _ (rw (formed_site l, no_number _ e) (simp and_false))
+
+  pub no_meter_on : None ≡ meter_repr (meter_of (up_to (past (past (past (past l)))))) → None ≡ where_formed S l (site_read_of l)
+  unfolding field_at rest_at
+  no_meter_on e = unformed S l _ (rw (formed_site l, no_meter_in _ e) (simp and_false))
+
+  pub no_ps : None ≡ number_in (up_to (past (past (past (past (past l)))))) → None ≡ where_formed S l (site_read_of l)
+  unfolding field_at rest_at
+  no_ps e = unformed S l _ (rw (formed_site l, no_number _ e) (simp and_false))
+
+  pub site_read : (a f p : ℕ) (m : Meter) → true ≡ reads (up_to (past l)) edition → Some a ≡ number_in (up_to (past (past l))) → Some f ≡ number_in (up_to (past (past (past l))))
+      → Some m ≡ meter_repr (meter_of (up_to (past (past (past (past l)))))) → Some p ≡ number_in (up_to (past (past (past (past (past l))))))
+      → Some (record { al = a; filiere = f; meter = Some m; ps = in_w p }) ≡ where_formed S l (site_read_of l)
+  unfolding site_read_of capped_at number_at field_at rest_at
+  site_read a f p m e ea ef em ep =
+      let pa = a_number _ a ea in
+      let pf = a_number _ f ef in
+      let pp = a_number _ p ep in
+      formed S l _ _ (rw (formed_site l, sym e, pa.0, pf.0, a_meter _ m em, pp.0)) (rw (pa.1, pf.1, em, pp.1))
+
+  -- X
+  pub reading_undated : dated_read_of l ≡ None → None ≡ where_formed X l (reading_read_of l)
+  reading_undated e = unformed X l _ (rw (formed_reading l, undated l e))
+
+  pub no_index : None ≡ number_in (up_to (rest_at l 4)) → None ≡ where_formed X l (reading_read_of l)
+  unfolding field_at rest_at
+  no_index e = unformed X l _ (rw (formed_reading l, no_number _ e) (and_false _))
+
+  pub no_kind_on : None ≡ kind_where (kind_of (up_to (past (rest_at l 4)))) → None ≡ where_formed X l (reading_read_of l)
+  unfolding field_at rest_at
+  no_kind_on e = unformed X l _ (rw (formed_reading l, no_kind_in _ e) (simp and_false))
+
+  pub reading_read : (d : Date) (i : ℕ) (k : Kind) → dated_read_of l ≡ Some d → Some i ≡ number_in (up_to (rest_at l 4)) → Some k ≡ kind_where (kind_of (up_to (past (rest_at l 4))))
+      → Some (record { date = d; index = in_wh i; kind = k }) ≡ where_formed X l (reading_read_of l)
+  unfolding reading_read_of capped_at number_at field_at rest_at
+  reading_read d i k ed ei ek =
+      let pd = dated_on l d ed in
+      let pi = a_number _ i ei in
+      let pk = a_kind _ k ek in
+      formed X l _ _ (rw (formed_reading l, pd.0, pi.0, pk.0)) (rw (pd.1, pi.1, pk.1))
+
+  -- D
+  pub daily_undated : dated_read_of l ≡ None → None ≡ where_formed D l (daily_read_of l)
+  daily_undated e = unformed D l _ (rw (formed_daily l, undated l e))
+
+  pub no_sum : None ≡ number_in (up_to (rest_at l 4)) → None ≡ where_formed D l (daily_read_of l)
+  unfolding field_at rest_at
+  no_sum e = unformed D l _ (rw (formed_daily l, no_number _ e) (and_false _))
+
+  pub daily_read : (d : Date) (s : ℕ) → dated_read_of l ≡ Some d → Some s ≡ number_in (up_to (rest_at l 4))
+      → Some (record { date = d; sum = s }) ≡ where_formed D l (daily_read_of l)
+  unfolding daily_read_of capped_at number_at field_at rest_at
+  daily_read d s ed es =
+      let pd = dated_on l d ed in
+      let ps = a_number _ s es in
+      formed D l _ _ (rw (formed_daily l, pd.0, ps.0)) (rw (pd.1, ps.1))
+
+  -- B and E
+  pub year_read : number_in (up_to (past l)) ≡ where_formed B l (capped_at l 1)
+  unfolding where_formed number_in capped_at number_at field_at rest_at
   year_read = rw (formed_year l)
 
-  pub count_read : where_formed E l (capped_at l 1) ≡ number_read l 1
-  unfolding where_formed
+  pub count_read : number_in (up_to (past l)) ≡ where_formed E l (capped_at l 1)
+  unfolding where_formed number_in capped_at number_at field_at rest_at
   count_read = rw (formed_count l)
 
-  pub rate_read : where_formed R l (rate_read_of l) ≡ option_and_then (λ y. option_and_then (λ r. Some (record { year = y; rate = r })) (number_read l 2)) (number_read l 1)
-  unfolding where_formed rate_read_of
-  rate_read =
-      rw (formed_rate l) (both_then (is_number (field_at l 1)) (is_number (field_at l 2)) (capped_at l 1) _ _ (last_one (is_number (field_at l 2)) (capped_at l 2) (λ r. record { year = capped_at l 1; rate = r })))
+  -- R
+  pub rate_no_year : None ≡ number_in (up_to (past l)) → None ≡ where_formed R l (rate_read_of l)
+  unfolding field_at rest_at
+  rate_no_year e = unformed R l _ (rw (formed_rate l, no_number _ e))
 
-  pub date_read : dated_read_of l
-      ≡ option_and_then (λ y. option_and_then (λ m. option_and_then (λ d. Some (record { year = y; month = m; day = d })) (number_read l 3)) (number_read l 2)) (number_read l 1)
-  unfolding dated_read_of is_date_formed date_read_of
-  date_read =
-      both_then (is_number (field_at l 1)) (is_number (field_at l 2) && is_number (field_at l 3)) (capped_at l 1) _ _
-      (both_then (is_number (field_at l 2)) (is_number (field_at l 3)) (capped_at l 2) _ _ (last_one (is_number (field_at l 3)) (capped_at l 3) (λ d. record { year = capped_at l 1; month = capped_at l 2; day = d })))
+  pub no_rate : None ≡ number_in (up_to (past (past l))) → None ≡ where_formed R l (rate_read_of l)
+  unfolding field_at rest_at
+  no_rate e = unformed R l _ (rw (formed_rate l, no_number _ e) (and_false _))
 
-  pub reading_read : where_formed X l (reading_read_of l)
-      ≡ option_and_then (λ d. option_and_then (λ i. option_and_then (λ k. Some (record { date = d; index = i; kind = k })) (kind_where (kind_of (field_at l 5)))) (number_read l 4)) (dated_read_of l)
-  unfolding where_formed reading_read_of dated_read_of kind_where
-  reading_read =
-      rw (formed_reading l)
-      (both_then (is_date_formed l) (is_number (field_at l 4) && is_kind (kind_of (field_at l 5))) (date_read_of l) _ _
-      (both_then (is_number (field_at l 4)) (is_kind (kind_of (field_at l 5))) (capped_at l 4) _ _ (last_one (is_kind (kind_of (field_at l 5))) (kind_repr (kind_of (field_at l 5))) (λ k. record { date = date_read_of l; index = capped_at l 4; kind = k }))))
+  pub rate_read : (y r : ℕ) → Some y ≡ number_in (up_to (past l)) → Some r ≡ number_in (up_to (past (past l))) → Some (record { year = y; rate = r }) ≡ where_formed R l (rate_read_of l)
+  unfolding rate_read_of capped_at number_at field_at rest_at
+  rate_read y r ey er =
+      let py = a_number _ y ey in
+      let pr = a_number _ r er in
+      formed R l _ _ (rw (formed_rate l, py.0, pr.0)) (rw (py.1, pr.1))
 
-  pub daily_read : where_formed D l (daily_read_of l) ≡ option_and_then (λ d. option_and_then (λ s. Some (record { date = d; sum = s })) (number_read l 4)) (dated_read_of l)
-  unfolding where_formed daily_read_of dated_read_of
-  daily_read =
-      rw (formed_daily l)
-      (both_then (is_date_formed l) (is_number (field_at l 4)) (date_read_of l) _ _ (last_one (is_number (field_at l 4)) (capped_at l 4) (λ s. record { date = date_read_of l; sum = s })))
+-- what the proofs of the readers need
+pub ruleset site_parts = (no_edition, no_al, no_filiere, no_meter_on, no_ps, site_read)
 
-  pub site_read : where_formed S l (site_read_of l)
-      ≡ cond (reads (field_at l 1) edition)
-      (option_and_then (λ a. option_and_then (λ f. option_and_then (λ m. option_and_then (λ p. Some (record { al = a; filiere = f; meter = Some m; ps = p })) (number_read l 5)) (meter_repr (meter_of (field_at l 4)))) (number_read l 3)) (number_read l 2))
-      None
-  unfolding where_formed site_read_of
-  site_read =
-      rw (formed_site l)
-      (after (reads (field_at l 1) edition) _ _ _
-      (both_then (is_number (field_at l 2)) _ (capped_at l 2) _ _
-      (both_then (is_number (field_at l 3)) _ (capped_at l 3) _ _
-      (meter_then (meter_of (field_at l 4)) (is_number (field_at l 5)) _ _ (λ k e. rw e (last_one (is_number (field_at l 5)) (capped_at l 5) (λ p. record { al = capped_at l 2; filiere = capped_at l 3; meter = Some k; ps = p })))))))
-    where
-      after : {A : Type 0} (a b : Bool) (x : A) (o : Option A) → then_some b x ≡ o → then_some (a && b) x ≡ cond a o None
-      after true b x o e = e
-      after false b x o e = refl
+pub ruleset reading_parts = (reading_undated, no_index, no_kind_on, reading_read)
+
+pub ruleset daily_parts = (daily_undated, no_sum, daily_read)
+
+pub ruleset rate_parts = (rate_no_year, no_rate, rate_read)

@@ -1,36 +1,33 @@
--- The 20 values of a line, from the values in the code.
-use Rattle.std.specs.Prelude.{Option, Some, None, option_and_then}
+-- The 20 values of a C or P line, split off one after the other.
+use Rattle.std.specs.Prelude.{Option, Some, None}
 use Rattle.std.specs.Bool.{then_some}
 use mathlib.Core.Path.{◌≡◌, refl, ap, sym, ◌∙◌}
-use mathlib.Core.Bool.{Bool, true, false, ◌&&◌, ◌||◌, cond}
+use mathlib.Core.Bool.{Bool, true, false, ◌&&◌}
 use mathlib.Core.List.{List, [], ◌∷◌, ◌++◌}
-use Prim.Native.Nat.{ℕ, zero, suc, ◌+◌, ◌-◌, ◌≤◌, ◌<◌, min}
+use Prim.Native.Nat.{ℕ, zero, suc, ◌+◌, ◌-◌, ◌≤◌, ◌<◌}
 use native.Mathlib.Numerals.{add-one}
 use native.Mathlib.Omega.{arith}
-use lib.Dec.{eqb}
-use lib.ListN.{length, take, set, get_or, replicate}
+use lib.ListN.{length, take, set, replicate}
 use lib.Seq.{take-suc-set, take_all}
 use Rattle.lists.specs.Lists.{tab}
-use Rattle.lists.proofs.Tables.{tab_snoc}
+use Rattle.lists.proofs.Tables.{tab_snoc, tab_same}
 use Rattle.lists.proofs.Tests.{and_false}
 use Rattle.text.specs.Fields.{up_to, past, rest_at, field_at}
-use Rattle.text.specs.Numbers.{is_number, value_of, is_dash, most}
-use Rattle.text.specs.NumberFields.{number_in}
-use Rattle.meaning.specs.Line.{Line, Form, forms_of, in_form, some_field}
-use Rattle.line_form.specs.Shapes.{field_of, byte_of, number_of}
-use Rattle.line_form.specs.Fields.{ReadFrom}
-use Rattle.line_form.specs.declared.Field.{Field}
-use Rattle.line_form.specs.declared.Field.TheVariants.{Number, Edition, Byte, Other}
-use Rattle.line_form.specs.declared.Fields.{Fields}
-use Rattle.line_form.proofs.Shaped.{by_byte, shape_number, shape_dash}
-use Rattle.line_form.proofs.Read.{field_at_lem}
-use Rattle.line_form.proofs.Readers.{both_then, last_one}
-use Rattle.line_form.specs.Reads.{in_forms, is_formed, is_date_formed, where_formed, date_read_of, dated_read_of}
-use Rattle.line_form.specs.Codes.{dash}
-use Rattle.line_form.specs.Rows.{row_form, row_tag, row_at, row_read_of, code_of, code_in, is_value, is_row_formed}
+use Rattle.meaning.specs.Line.{Line, Tag, C, P, Form, number, number_or_dash, most_power, most_profile, forms_of, in_form, some_field, value_at, number_at}
+use Rattle.rounding.specs.declared.Watts.{Watts}
+use Rattle.line_form.specs.Reads.{in_forms, is_formed, is_date_formed, where_formed, date_read_of, dated_read_of, points_read_of, profiles_read_of}
+use Rattle.line_form.specs.Codes.{point_row, profile_row}
+use Rattle.line_form.specs.Rows.{point_in, profile_in, row_of, are_values}
+use Rattle.calendar.specs.declared.Date.{Date}
 use Rattle.line_form.proofs.Forms.{dated, in_forms_snoc}
+use Rattle.line_form.proofs.Readers.{undated, dated_on, unformed, formed}
 
 -- ---- fields after the n-th
+pub rest_suc : (n : ℕ) (l : List ℕ) → rest_at l (suc n) ≡ past (rest_at l n)
+unfolding rest_at
+rest_suc zero l = refl
+rest_suc (suc n) l = rest_suc n (past l)
+
 rest_add : (m n : ℕ) (l : List ℕ) → rest_at (rest_at l m) n ≡ rest_at l (m + n)
 unfolding rest_at
 rest_add zero n l = let e : n ≡ 0 + n = omega arith in ap (λ (k : ℕ). rest_at l k) e
@@ -40,99 +37,127 @@ field_add : (m n : ℕ) (l : List ℕ) → field_at (rest_at l m) n ≡ field_at
 unfolding field_at
 field_add m n l = ap up_to (rest_add m n l)
 
--- ---- a field: its number, unless it is a dash where one is allowed
-code_by : (dashes d n : Bool) (m : ℕ) (s : Field) → d ≡ by_byte false (λ b. eqb b 45) (byte_of s) → number_of s ≡ then_some n m
-    → code_in dashes s ≡ then_some ((dashes && d) || n) (cond (dashes && d) dash m)
-code_by dashes d true m (Number v) p q = rw (p, and_false dashes) q
-code_by dashes d false m (Number v) p q = absurd (cc)
-code_by dashes d n m Edition p q = rw (p, and_false dashes) q
-code_by dashes d true m (Byte b) p q = absurd (cc)
-code_by dashes d false m (Byte b) p q = rw p (go (dashes && eqb b 45))
-  where
-    go : (x : Bool) → cond x (Some dash) None ≡ then_some (x || false) (cond x dash m)
-    go true = refl
-    go false = refl
-code_by dashes d n m Other p q = rw (p, and_false dashes) q
+-- ---- one more value
+-- the first k fields of t are in the form m and their values are read, and r is what is left of t
+pub record RowSoFar {A : Type 0} (m : Form) (value : List ℕ → A) (t r : List ℕ) (values : List A) (k : ℕ) : Type 0 where
+  pub rest : r ≡ rest_at t k
+  pub made : take k values ≡ tab k 0 (λ h. value (field_at t h))
+  pub formed : in_forms (replicate k m) t ≡ true
 
-pub code_here : (dashes : Bool) (told : Fields) (l : Line) (w : ReadFrom told l) (k i : ℕ) (d : Field) → k < 20 → i ≡ k + 4 → (r : Option ℕ) → r ≡ code_in dashes (get_or told.fields i d)
-    → r ≡ then_some (is_value dashes (field_at l (4 + k))) (code_of dashes (field_at l (4 + k)))
-unfolding is_value code_of number_in
-code_here dashes told l w k i d h e r q =
-    let place : i ≡ 4 + k = omega arith in
-    let f = field_at l (4 + k) in
-    q ∙ rw (field_at_lem l told w i d (omega arith), place) (code_by dashes (is_dash f) (is_number f) (min (value_of f) most) (field_of f) (shape_dash f) (shape_number f))
+pub no_row : {A : Type 0} (m : Form) (value : List ℕ → A) (t : List ℕ) (values : List A) → RowSoFar m value t t values 0
+unfolding tab in_forms some_field rest_at
+no_row m value t values = record { rest = refl; made = refl; formed = refl }
 
--- ---- one more place
--- the first n codes of a line
-abbrev pub codes_of : Bool → Line → ℕ → List ℕ
-codes_of dashes l n = tab n 0 (λ h. code_of dashes (field_at l (4 + h)))
+module _ {A : Type 0} (m : Form) (value : List ℕ → A) (t r f : List ℕ) (values : List A) (k : ℕ) (w : RowSoFar m value t r values k) (first : f ≡ up_to r) where
+  here : f ≡ field_at t k
+  unfolding field_at
+  here = first ∙ ap up_to w.rest
 
-pub codes_on : (dashes : Bool) (vs : List ℕ) (k : ℕ) (l : Line) (v : ℕ) → k < length vs → take k vs ≡ codes_of dashes l k → v ≡ code_of dashes (field_at l (4 + k))
-    → take (k + 1) (set vs k v) ≡ codes_of dashes l (k + 1)
-codes_on dashes vs k l v h e r =
-    rw (add-one k, take-suc-set vs k v h, tab_snoc k 0 (λ n. code_of dashes (field_at l (4 + n))), e, r)
-    (ap (λ (n : ℕ). codes_of dashes l k ++ (code_of dashes (field_at l (4 + n)) ∷ [])) {x = k} {y = 0 + k} (omega arith))
+  -- one more field, in its form or not
+  row_on : in_forms (replicate (k + 1) m) t ≡ in_form m f
+  row_on = rw (add-one k, in_forms_snoc k m t, w.formed, here)
 
-value_form : (dashes : Bool) (f : List ℕ) → in_form (row_form dashes) f ≡ is_value dashes f
-unfolding in_form is_value
-value_form true f = refl
-value_form false f = refl
+  pub row_more : (u : List ℕ) (v : A) → u ≡ past r → k < length values → Some v ≡ then_some (in_form m f) (value f) → RowSoFar m value t u (set values k v) (k + 1)
+  row_more u v after h e = go (in_form m f) refl e
+    where
+      go : (b : Bool) → in_form m f ≡ b → Some v ≡ then_some b (value f) → RowSoFar m value t u (set values k v) (k + 1)
+      go false q p = absurd (cc)
+      go true q p =
+          let c : v ≡ value (field_at t k) = rw (← here) cc in
+          record {
+            rest = after ∙ rw (add-one k, rest_suc k t, w.rest);
+            made = rw (add-one k, take-suc-set values k v h, tab_snoc k 0 (λ n. value (field_at t n)), w.made, c) (ap (λ (n : ℕ). tab k 0 (λ h. value (field_at t h)) ++ (value (field_at t n) ∷ [])) {x = k} {y = 0 + k} (omega arith));
+            formed = row_on ∙ q;
+          }
 
--- one more field, in its form or not
-row_on : (dashes : Bool) (k : ℕ) (l : Line) → in_forms (replicate k (row_form dashes)) (rest_at l 4) ≡ true
-    → in_forms (replicate (k + 1) (row_form dashes)) (rest_at l 4) ≡ is_value dashes (field_at l (4 + k))
-row_on dashes k l e = rw (add-one k, in_forms_snoc k (row_form dashes) (rest_at l 4), value_form dashes (field_at (rest_at l 4) k), field_add 4 k l, e)
+  pub row_stops : k < 20 → None ≡ then_some (in_form m f) (value f) → None ≡ then_some (are_values m t) (row_of value t)
+  unfolding are_values
+  row_stops h e = go (in_form m f) refl e
+    where
+      -- no row is in its form past a field that is not
+      none_after : (j n : ℕ) → in_forms (replicate n m) t ≡ false → in_forms (replicate (j + n) m) t ≡ false
+      none_after zero n e = let z : 0 + n ≡ n = omega arith in rw z e
+      none_after (suc j) n e = let z : suc j + n ≡ suc (j + n) = omega arith in rw (z, in_forms_snoc (j + n) m t, none_after j n e)
 
--- the first k fields are in their form
-pub record RowSoFar (dashes : Bool) (l : Line) (vs : List ℕ) (k : ℕ) : Type 0 where
-  pub codes : take k vs ≡ codes_of dashes l k
-  pub formed : in_forms (replicate k (row_form dashes)) (rest_at l 4) ≡ true
+      go : (b : Bool) → in_form m f ≡ b → None ≡ then_some b (value f) → None ≡ then_some (in_forms (replicate 20 m) t) (row_of value t)
+      go true q p = absurd (cc)
+      go false q p =
+          let z : 20 ≡ (19 - k) + (k + 1) = omega arith in
+          rw (rw (← z) at (none_after (19 - k) (k + 1) (row_on ∙ q)))
 
-pub no_row : (dashes : Bool) (l : Line) (vs : List ℕ) → RowSoFar dashes l vs 0
-unfolding tab in_forms some_field
-no_row dashes l vs = record { codes = refl; formed = refl }
-
-pub row_more : (dashes : Bool) (l : Line) (vs : List ℕ) (k v : ℕ) → RowSoFar dashes l vs k → k < length vs → Some v ≡ then_some (is_value dashes (field_at l (4 + k))) (code_of dashes (field_at l (4 + k)))
-    → RowSoFar dashes l (set vs k v) (k + 1)
-row_more dashes l vs k v w h e = go (is_value dashes (field_at l (4 + k))) refl e
-  where
-    go : (b : Bool) → is_value dashes (field_at l (4 + k)) ≡ b → Some v ≡ then_some b (code_of dashes (field_at l (4 + k))) → RowSoFar dashes l (set vs k v) (k + 1)
-    go true q p = record { codes = codes_on dashes vs k l v h w.codes cc; formed = row_on dashes k l w.formed ∙ q }
-    go false q p = absurd (cc)
-
--- no row is in its form past a field that is not
-none_after : (j n : ℕ) (m : Form) (t : List ℕ) → in_forms (replicate n m) t ≡ false → in_forms (replicate (j + n) m) t ≡ false
-none_after zero n m t e = let z : 0 + n ≡ n = omega arith in rw z e
-none_after (suc j) n m t e = let z : suc j + n ≡ suc (j + n) = omega arith in rw (z, in_forms_snoc (j + n) m t, none_after j n m t e)
-
-pub row_stops : (dashes : Bool) (l : Line) (vs : List ℕ) (k : ℕ) → RowSoFar dashes l vs k → k < 20 → None ≡ then_some (is_value dashes (field_at l (4 + k))) (code_of dashes (field_at l (4 + k)))
-    → None ≡ then_some (is_row_formed dashes l) (row_at dashes l 4)
-unfolding is_row_formed
-row_stops dashes l vs k w h e = go (is_value dashes (field_at l (4 + k))) refl e
-  where
-    go : (b : Bool) → is_value dashes (field_at l (4 + k)) ≡ b → None ≡ then_some b (code_of dashes (field_at l (4 + k))) → None ≡ then_some (is_row_formed dashes l) (row_at dashes l 4)
-    go true q p = absurd (cc)
-    go false q p =
-        let z : 20 ≡ (19 - k) + (k + 1) = omega arith in
-        rw (rw (← z) at (none_after (19 - k) (k + 1) (row_form dashes) (rest_at l 4) (row_on dashes k l w.formed ∙ q)))
-
--- ---- all 20
-formed_row : (dashes : Bool) (l : Line) → is_formed (row_tag dashes) l ≡ (is_date_formed l && in_forms (replicate 20 (row_form dashes)) (rest_at l 4))
-unfolding is_formed forms_of in_form is_date_formed
-formed_row true l = dated _ _ _ (replicate 20 (row_form true)) l
-formed_row false l = dated _ _ _ (replicate 20 (row_form false)) l
-
-pub row_read : (dashes : Bool) (vs : List ℕ) (k : ℕ) (l : Line) → RowSoFar dashes l vs k → length vs ≡ 20 → 20 ≤ k → k ≤ 20 → Some vs ≡ then_some (is_row_formed dashes l) (row_at dashes l 4)
-unfolding is_row_formed row_at
-row_read dashes vs k l w h lo hi =
+-- all 20
+pub row_read : {A : Type 0} (m : Form) (value : List ℕ → A) (t r : List ℕ) (values : List A) (k : ℕ) → RowSoFar m value t r values k → length values ≡ 20 → 20 ≤ k → k ≤ 20
+    → Some values ≡ then_some (are_values m t) (row_of value t)
+unfolding are_values row_of
+row_read m value t r values k w h lo hi =
     let z : k ≡ 20 = omega arith in
-    let e : vs ≡ codes_of dashes l 20 = sym (take_all 20 vs (omega arith)) ∙ (rw z at w.codes) in
+    let e : values ≡ tab 20 0 (λ h. value (field_at t h)) = sym (take_all 20 values (omega arith)) ∙ (rw z at w.made) in
     rw (rw z at w.formed, e)
 
 -- ---- the line
-pub row_dated : (dashes : Bool) (l : Line) → where_formed (row_tag dashes) l (row_read_of dashes l)
-    ≡ option_and_then (λ d. option_and_then (λ vs. Some (record { date = d; codes = vs })) (then_some (is_row_formed dashes l) (row_at dashes l 4))) (dated_read_of l)
-unfolding where_formed dated_read_of is_row_formed row_read_of
-row_dated dashes l =
-    rw (formed_row dashes l)
-    (both_then (is_date_formed l) (is_row_formed dashes l) (date_read_of l) _ _ (last_one (is_row_formed dashes l) (row_at dashes l 4) (λ vs. record { date = date_read_of l; codes = vs })))
+-- none where the date or the row is not in its form; vs is the row that is read past the date
+module _ {A V : Type 0} (g : Tag) (m : Form) (l : Line) (row : List V) (read : A) (split : is_formed g l ≡ (is_date_formed l && are_values m (rest_at l 4))) where
+  row_undated : dated_read_of l ≡ None → None ≡ where_formed g l read
+  row_undated e = unformed g l _ (rw (split, undated l e))
+
+  no_values : None ≡ then_some (are_values m (rest_at l 4)) row → None ≡ where_formed g l read
+  no_values e = go (are_values m (rest_at l 4)) refl e
+    where
+      go : (b : Bool) → are_values m (rest_at l 4) ≡ b → None ≡ then_some b row → None ≡ where_formed g l read
+      go true q p = absurd (cc)
+      go false q p = unformed g l _ (rw (split, q) (and_false (is_date_formed l)))
+
+  values_read : (d : Date) (vs : List V) (told : A) → dated_read_of l ≡ Some d → Some vs ≡ then_some (are_values m (rest_at l 4)) row
+      → (d ≡ date_read_of l → vs ≡ row → told ≡ read) → Some told ≡ where_formed g l read
+  values_read d vs told e ev same = go (are_values m (rest_at l 4)) refl ev
+    where
+      go : (b : Bool) → are_values m (rest_at l 4) ≡ b → Some vs ≡ then_some b row → Some told ≡ where_formed g l read
+      go true q p = let pd = dated_on l d e in let c : vs ≡ row = cc in formed g l _ _ (rw (split, pd.0, q)) (same pd.1 c)
+      go false q p = absurd (cc)
+
+-- ---- C
+formed_points : (l : Line) → is_formed C l ≡ (is_date_formed l && are_values (number_or_dash most_power) (rest_at l 4))
+unfolding is_formed forms_of in_form is_date_formed are_values
+formed_points l = dated _ _ _ (replicate 20 (number_or_dash most_power)) l
+
+points_row : (l : Line) → row_of point_in (rest_at l 4) ≡ point_row l
+unfolding row_of point_in point_row value_at number_at
+points_row l = tab_same 20 0 (λ h. point_in (field_at (rest_at l 4) h)) (λ h. point_in (field_at l (4 + h))) (λ h i. rw (field_add 4 h l))
+
+module _ (l : Line) where
+  pub points_undated : dated_read_of l ≡ None → None ≡ where_formed C l (points_read_of l)
+  points_undated e = row_undated C _ l (point_row l) _ (formed_points l) e
+
+  pub no_points : None ≡ then_some (are_values (number_or_dash most_power) (rest_at l 4)) (row_of point_in (rest_at l 4)) → None ≡ where_formed C l (points_read_of l)
+  no_points e = no_values C _ l _ _ (formed_points l) e
+
+  pub points_told : (d : Date) (vs : List (Option Watts)) → dated_read_of l ≡ Some d → Some vs ≡ then_some (are_values (number_or_dash most_power) (rest_at l 4)) (row_of point_in (rest_at l 4))
+      → Some (record { date = d; points = vs }) ≡ where_formed C l (points_read_of l)
+  unfolding points_read_of
+  points_told d vs e ev = values_read C _ l _ _ (formed_points l) d vs (record { date = d; points = vs }) e ev (λ ed ep. rw (ed, ep, points_row l))
+
+-- what the proof of the reader needs
+pub ruleset points_parts = (points_undated, no_points, points_told)
+
+-- ---- P
+formed_profiles : (l : Line) → is_formed P l ≡ (is_date_formed l && are_values (number 0 most_profile) (rest_at l 4))
+unfolding is_formed forms_of in_form is_date_formed are_values
+formed_profiles l = dated _ _ _ (replicate 20 (number 0 most_profile)) l
+
+profiles_row : (l : Line) → row_of profile_in (rest_at l 4) ≡ profile_row l
+unfolding row_of profile_in profile_row value_at number_at
+profiles_row l = tab_same 20 0 (λ h. profile_in (field_at (rest_at l 4) h)) (λ h. profile_in (field_at l (4 + h))) (λ h i. rw (field_add 4 h l))
+
+module _ (l : Line) where
+  pub profiles_undated : dated_read_of l ≡ None → None ≡ where_formed P l (profiles_read_of l)
+  profiles_undated e = row_undated P _ l (profile_row l) _ (formed_profiles l) e
+
+  pub no_profiles : None ≡ then_some (are_values (number 0 most_profile) (rest_at l 4)) (row_of profile_in (rest_at l 4)) → None ≡ where_formed P l (profiles_read_of l)
+  no_profiles e = no_values P _ l _ _ (formed_profiles l) e
+
+  pub profiles_told : (d : Date) (vs : List ℕ) → dated_read_of l ≡ Some d → Some vs ≡ then_some (are_values (number 0 most_profile) (rest_at l 4)) (row_of profile_in (rest_at l 4))
+      → Some (record { date = d; values = vs }) ≡ where_formed P l (profiles_read_of l)
+  unfolding profiles_read_of
+  profiles_told d vs e ev = values_read P _ l _ _ (formed_profiles l) d vs (record { date = d; values = vs }) e ev (λ ed ep. rw (ed, ep, profiles_row l))
+
+pub ruleset profiles_parts = (profiles_undated, no_profiles, profiles_told)

@@ -1,59 +1,58 @@
 -- Laws of tags.
-use mathlib.Core.Path.{◌≡◌, refl, ap, sym, ◌∙◌}
+use mathlib.Core.Path.{◌≡◌, refl, ap}
 use mathlib.Core.Bool.{Bool, true, false, not, cond}
-use Prim.Native.Nat.{ℕ, ◌+◌, ◌<◌}
+use Prim.Native.Nat.{ℕ, ◌+◌, ◌-◌, ◌≤◌}
 use native.Mathlib.Omega.{arith}
 use lib.Dec.{T, eqb, eqb→eq}
-use lib.ListN.{get_or}
 use Rattle.std.specs.Bool.{then_some}
-use Rattle.text.specs.Fields.{up_to, tabs, rest_at, field_at}
-use Rattle.text.proofs.NumberLaws.{eqb_capped}
-use Rattle.meaning.specs.Line.{Line, Tag, S, C, X, D, P, B, R, E, other, is, size, tag_of, tag_of_letter}
+use Rattle.text.specs.Fields.{up_to, tabs}
+use Rattle.meaning.specs.Line.{Line, Tag, other, is, size, tag_of, tag_of_field}
 use Rattle.meaning.specs.Refusals.{is_unknown}
-use Rattle.line_form.specs.Fields.{ReadFrom}
-use Rattle.line_form.specs.Shapes.{byte_of}
 use Rattle.line_form.specs.Tags.{known_tag}
 use Rattle.line_form.specs.Views.{tag_view, known_view}
-use Rattle.line_form.specs.declared.Field.{Field}
-use Rattle.line_form.specs.declared.Fields.{Fields}
 use Rattle.line_form.specs.declared.Tag as form
-use Rattle.line_form.proofs.Shaped.{by_byte, shape_tag}
-use Rattle.line_form.proofs.Read.{field_at_lem, count_of}
+use Rattle.line_form.specs.declared.Tag.TheVariants.{S, C, X, D, P, B, R, E}
+use Rattle.lists.proofs.Tests.{same}
+use Rattle.lists.proofs.Reflect.{of_eq}
+use Rattle.std.specs.Prelude.{Option, Some, None}
 
--- ---- the number of fields
-size_most : (t : Tag) → size t < 25
-size_most S = omega arith
-size_most C = omega arith
-size_most X = omega arith
-size_most D = omega arith
-size_most P = omega arith
-size_most B = omega arith
-size_most R = omega arith
-size_most E = omega arith
-size_most other = omega arith
+-- ---- the tag of a line, by that of its first field and by the number of its tabs
+pub some_fields : (t : form.Tag) → 1 ≤ size (tag_view t)
+some_fields S = omega arith
+some_fields C = omega arith
+some_fields X = omega arith
+some_fields D = omega arith
+some_fields P = omega arith
+some_fields B = omega arith
+some_fields R = omega arith
+some_fields E = omega arith
 
--- from the values in the code
-module _ (f : Fields) (d : Field) (l : Line) (w : ReadFrom f l) where
-  pub known_by : (t : Tag) → t ≡ by_byte other tag_of_letter (byte_of (get_or f.fields 0 d)) → known_tag l ≡ cond (eqb f.count (size t)) t other
-  unfolding known_tag is_unknown tag_of field_at rest_at
-  known_by t e =
-      let here : tag_of l ≡ t = shape_tag (up_to l) ∙ rw e (ap (λ (x : Field). by_byte other tag_of_letter (byte_of x)) (sym (field_at_lem l f w 0 d (omega arith)))) in
-      rw (here, count_of l f w, eqb_capped 25 (tabs l + 1) (size t) (size_most t)) (go (eqb (tabs l + 1) (size t)))
-    where
-      go : (b : Bool) → cond (not b) other t ≡ cond b t other
-      go true = refl
-      go false = refl
+pub untold : (l : Line) (o r : Option form.Tag) → o ≡ None → known_view o ≡ tag_of_field (up_to l) → r ≡ None → known_view r ≡ known_tag l
+unfolding known_tag is_unknown tag_of
+untold l o r p e q =
+    let none : other ≡ tag_of_field (up_to l) = rw p at e in
+    rw (q, ← none) (go (not (eqb (tabs l + 1) (size other))))
+  where
+    go : (b : Bool) → other ≡ cond b other other
+    go true = refl
+    go false = refl
 
-  pub none_by : other ≡ by_byte other tag_of_letter (byte_of (get_or f.fields 0 d)) → other ≡ known_tag l
-  none_by e = sym (known_by other e ∙ go (eqb f.count (size other)))
-    where
-      go : (b : Bool) → cond b other other ≡ other
-      go true = refl
-      go false = refl
+pub told : (l : Line) (o r : Option form.Tag) (t : form.Tag) (n m : ℕ) → o ≡ Some t → known_view o ≡ tag_of_field (up_to l) → m ≡ size (tag_view t) → n ≡ tabs l → r ≡ then_some (eqb n (m - 1)) t
+    → known_view r ≡ known_tag l
+unfolding known_tag is_unknown tag_of
+told l o r t n m p e pm pn q =
+    let tag : tag_view t ≡ tag_of_field (up_to l) = rw p at e in
+    rw (q, ← tag, pn, pm, one_fewer (tabs l) (size (tag_view t)) (some_fields t)) (go (eqb (tabs l + 1) (size (tag_view t))))
+  where
+    one_fewer : (a b : ℕ) → 1 ≤ b → eqb a (b - 1) ≡ eqb (a + 1) b
+    one_fewer a b h = same (eqb a (b - 1)) (eqb (a + 1) b) (λ t. (of_eq (a + 1) b).1 (omega (arith, eqb→eq a (b - 1) t))) (λ t. (of_eq a (b - 1)).1 (omega (arith, eqb→eq (a + 1) b t)))
 
-pub shown_if : (b : Bool) (t : form.Tag) → known_view (then_some b t) ≡ cond b (tag_view t) other
-shown_if true t = refl
-shown_if false t = refl
+    go : (b : Bool) → known_view (then_some b t) ≡ cond (not b) other (tag_view t)
+    go true = refl
+    go false = refl
+
+-- what the proof of the tag needs
+pub ruleset tag_parts = (some_fields, untold)
 
 -- ---- 3, by the known tag
 -- a line with no known tag is unknown

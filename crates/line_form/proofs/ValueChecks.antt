@@ -1,12 +1,12 @@
 -- 5 and 6 of a C or P line from what is read from it.
+use Rattle.std.specs.Prelude.{Some, None}
 use mathlib.Core.Path.{◌≡◌, refl, ap, sym, ◌∙◌}
-use mathlib.Core.Bool.{Bool, true, false, not, ◌&&◌, ◌||◌, cond}
+use mathlib.Core.Bool.{Bool, true, false, not, ◌||◌, cond}
 use mathlib.Core.List.{List}
 use Prim.Native.Nat.{ℕ, zero, suc, ◌+◌, min}
 use native.Mathlib.Omega.{arith}
-use lib.Dec.{leb, ltb, eqb}
+use lib.Dec.{leb}
 use lib.ListN.{length, replicate}
-use borrow.Author.Tests.{ne_eqb}
 use Rattle.lists.specs.Lists.{any, tab}
 use Rattle.lists.proofs.Laws.{length_tab}
 use Rattle.lists.proofs.Tests.{or_parts}
@@ -18,10 +18,11 @@ use Rattle.text.proofs.NumberLaws.{ltb_capped}
 use Rattle.meaning.specs.Line.{Line, C, P, tag_of, Form, number, number_or_dash, forms_of, in_range, some_field, number_at, year_on, value_at, most_power, most_profile}
 use Rattle.meaning.specs.Refusals.{is_outside}
 use Rattle.line_form.specs.Reads.{capped_at, date_read_of}
-use Rattle.line_form.proofs.ReadFields.{rest_suc}
+use Rattle.line_form.proofs.Rows.{rest_suc}
 use Rattle.line_form.proofs.Capped.{Early, not_leb, above_capped}
 use Rattle.line_form.proofs.Checks.{either, year_off, year_exact}
-use Rattle.line_form.specs.Codes.{dash, point_row, profile_row, is_point_outside, is_profile_outside}
+use Rattle.rounding.specs.Units.{in_w}
+use Rattle.line_form.specs.Codes.{point_row, profile_row, is_point_outside, is_profile_outside}
 use Rattle.line_form.specs.ValueRanges.{is_points_outside, is_profiles_outside}
 
 -- ---- 6
@@ -29,32 +30,28 @@ field_here : (l : List ℕ) (n : ℕ) → up_to (rest_at l n) ≡ field_at l n
 unfolding field_at
 field_here l n = refl
 
--- some field of a row fails a test, by a test of the code of each
-row_fails : (fails : Form → List ℕ → Bool) (m : Form) (p : ℕ → Bool) (code : List ℕ → ℕ) → ((f : List ℕ) → fails m f ≡ p (code f)) → (n i : ℕ) (l : List ℕ)
-    → some_field fails (replicate n m) (rest_at l (4 + i)) ≡ any p (tab n i (λ h. code (field_at l (4 + h))))
+-- some field of a row fails a test, by a test of the value of each
+row_fails : {A : Type 0} (fails : Form → List ℕ → Bool) (m : Form) (p : A → Bool) (value : List ℕ → A) → ((f : List ℕ) → fails m f ≡ p (value f)) → (n i : ℕ) (l : List ℕ)
+    → some_field fails (replicate n m) (rest_at l (4 + i)) ≡ any p (tab n i (λ h. value (field_at l (4 + h))))
 unfolding some_field any tab
-row_fails fails m p code e zero i l = refl
-row_fails fails m p code e (suc n) i l = go (row_fails fails m p code e n (suc i) l)
+row_fails fails m p value e zero i l = refl
+row_fails fails m p value e (suc n) i l = go (row_fails fails m p value e n (suc i) l)
   where
     next : past (rest_at l (4 + i)) ≡ rest_at l (4 + suc i)
     next = let z : suc (4 + i) ≡ 4 + suc i = omega arith in sym (rest_suc (4 + i) l) ∙ ap (λ (k : ℕ). rest_at l k) z
 
-    go : some_field fails (replicate n m) (rest_at l (4 + suc i)) ≡ any p (tab n (suc i) (λ h. code (field_at l (4 + h))))
-        → (fails m (up_to (rest_at l (4 + i))) || some_field fails (replicate n m) (past (rest_at l (4 + i)))) ≡ (p (code (field_at l (4 + i))) || any p (tab n (suc i) (λ h. code (field_at l (4 + h)))))
+    go : some_field fails (replicate n m) (rest_at l (4 + suc i)) ≡ any p (tab n (suc i) (λ h. value (field_at l (4 + h))))
+        → (fails m (up_to (rest_at l (4 + i))) || some_field fails (replicate n m) (past (rest_at l (4 + i)))) ≡ (p (value (field_at l (4 + i))) || any p (tab n (suc i) (λ h. value (field_at l (4 + h)))))
     go r = rw (next, r, e (up_to (rest_at l (4 + i))), field_here l (4 + i))
 
--- no capped number is the dash
-no_dash : (v : ℕ) → eqb (min v most) dash ≡ false
-no_dash v = ne_eqb (min v most) dash (λ (e : min v most ≡ dash). omega arith)
-
--- a point's code is outside where its field is
-point_off : (h : Years) (f : List ℕ) → not (in_range h (number_or_dash most_power) f) ≡ is_point_outside (cond (is_dash f) dash (min (value_of f) most))
+-- a point is outside where its field is
+point_off : (h : Years) (f : List ℕ) → not (in_range h (number_or_dash most_power) f) ≡ is_point_outside (cond (is_dash f) None (Some (in_w (min (value_of f) most))))
 unfolding in_range is_point_outside
 point_off h f = go (is_dash f)
   where
-    go : (b : Bool) → not (b || leb (value_of f) most_power) ≡ (not (eqb (cond b dash (min (value_of f) most)) dash) && ltb most_power (cond b dash (min (value_of f) most)))
+    go : (b : Bool) → not (b || leb (value_of f) most_power) ≡ is_point_outside (cond b None (Some (in_w (min (value_of f) most))))
     go true = refl
-    go false = rw (no_dash (value_of f)) (not_leb (value_of f) most_power ∙ sym (ltb_capped most (value_of f) most_power (omega arith)))
+    go false = not_leb (value_of f) most_power ∙ sym (ltb_capped most (value_of f) most_power (omega arith))
 
 profile_off : (h : Years) (f : List ℕ) → not (in_range h (number 0 most_profile) f) ≡ is_profile_outside (min (value_of f) most)
 unfolding in_range is_profile_outside
@@ -64,7 +61,7 @@ pub outside_c : (h : Years) (l : Line) → Early h → tag_of l ≡ C → is_out
 unfolding is_outside forms_of some_field in_range is_points_outside date_read_of point_row value_at number_at field_at rest_at
 outside_c h l y e =
     rw e (either (year_off h l 1 (omega arith))
-    (row_fails (λ m f. not (in_range h m f)) (number_or_dash most_power) is_point_outside (λ f. cond (is_dash f) dash (min (value_of f) most)) (point_off h) 20 0 l))
+    (row_fails (λ m f. not (in_range h m f)) (number_or_dash most_power) is_point_outside (λ f. cond (is_dash f) None (Some (in_w (min (value_of f) most)))) (point_off h) 20 0 l))
 
 pub outside_p : (h : Years) (l : Line) → Early h → tag_of l ≡ P → is_outside h l ≡ is_profiles_outside h (date_read_of l) (profile_row l)
 unfolding is_outside forms_of some_field in_range is_profiles_outside date_read_of profile_row value_at number_at field_at rest_at

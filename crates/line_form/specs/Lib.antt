@@ -1,8 +1,6 @@
 pub mod Views
 pub mod Reads
 pub mod Ranges
-pub mod Shapes
-pub mod Fields
 pub mod Tags
 pub mod Codes
 pub mod ValueRanges

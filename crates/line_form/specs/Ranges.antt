@@ -13,11 +13,11 @@ use Rattle.line_form.specs.declared.year_fields.RateRead.{RateRead}
 -- ---- 6: numbers outside their ranges, years outside the span of the tag
 -- S
 unfoldable pub is_site_outside : Site → Bool
-is_site_outside s = not (is_within 2021 2026 s.al) || (not (is_within 1 11 s.filiere) || not (is_within 1 most_power s.ps))
+is_site_outside s = not (is_within 2021 2026 s.al) || (not (is_within 1 11 s.filiere) || not (is_within 1 most_power s.ps.0))
 
 -- X
 unfoldable pub is_reading_outside : Years → ReadingRead → Bool
-is_reading_outside h r = not (among (axis_years h) r.date.year) || ltb most_index r.index
+is_reading_outside h r = not (among (axis_years h) r.date.year) || ltb most_index r.index.0
 
 -- D
 unfoldable pub is_daily_outside : Years → DailyRead → Bool

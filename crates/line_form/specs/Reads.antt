@@ -7,11 +7,13 @@ use Rattle.meaning.specs.Filing as meant
 use Rattle.meaning.specs.Line.{Line, Tag, Form, forms_of, in_form, some_field, number_at, meter_of, kind_of, is_kind}
 use Rattle.readings.specs.declared.Kind.{Kind}
 use Rattle.readings.specs.Readings.{kind_repr}
+use Rattle.rounding.specs.Units.{in_w, in_wh}
 use Rattle.line_form.specs.Views.{meter_repr}
 use Rattle.line_form.specs.declared.Site.{Site}
 use Rattle.calendar.specs.declared.Date.{Date}
 use Rattle.line_form.specs.Codes.{point_row, profile_row}
-use Rattle.line_form.specs.declared.values.ValuesRead.{ValuesRead}
+use Rattle.line_form.specs.declared.values.PointsRead.{PointsRead}
+use Rattle.line_form.specs.declared.values.ProfilesRead.{ProfilesRead}
 use Rattle.line_form.specs.declared.axis_fields.ReadingRead.{ReadingRead}
 use Rattle.line_form.specs.declared.axis_fields.DailyRead.{DailyRead}
 use Rattle.line_form.specs.declared.year_fields.RateRead.{RateRead}
@@ -50,18 +52,18 @@ dated_read_of l = then_some (is_date_formed l) (date_read_of l)
 -- ---- what a line says: the year of a B line and the count of an E line are its first number, capped
 -- S
 unfoldable pub site_read_of : Line → Site
-site_read_of l = record { al = capped_at l 2; filiere = capped_at l 3; meter = meter_repr (meter_of (field_at l 4)); ps = capped_at l 5 }
+site_read_of l = record { al = capped_at l 2; filiere = capped_at l 3; meter = meter_repr (meter_of (field_at l 4)); ps = in_w (capped_at l 5) }
 
 -- C and P
-unfoldable pub points_read_of : Line → ValuesRead
-points_read_of l = record { date = date_read_of l; codes = point_row l }
+unfoldable pub points_read_of : Line → PointsRead
+points_read_of l = record { date = date_read_of l; points = point_row l }
 
-unfoldable pub profiles_read_of : Line → ValuesRead
-profiles_read_of l = record { date = date_read_of l; codes = profile_row l }
+unfoldable pub profiles_read_of : Line → ProfilesRead
+profiles_read_of l = record { date = date_read_of l; values = profile_row l }
 
 -- X
 unfoldable pub reading_read_of : Line → ReadingRead
-reading_read_of l = record { date = date_read_of l; index = capped_at l 4; kind = kind_repr (kind_of (field_at l 5)) }
+reading_read_of l = record { date = date_read_of l; index = in_wh (capped_at l 4); kind = kind_repr (kind_of (field_at l 5)) }
 
 -- D
 unfoldable pub daily_read_of : Line → DailyRead

@@ -1,48 +1,23 @@
--- The values of C and P lines together, by whether a dash is allowed.
-use Rattle.std.specs.Prelude.{◌≡◌, Bool, true, false, ◌&&◌, ◌||◌, cond, List, ℕ, ◌+◌, min, eqb, replicate, Option, Some, None}
-use Rattle.line_form.specs.declared.Field.{Field}
-use Rattle.line_form.specs.declared.Field.TheVariants.{Number, Edition, Byte, Other}
-use Rattle.line_form.specs.declared.values.ValuesRead.{ValuesRead}
+-- The values of a C and of a P line, each by its field, and a row of 20.
+use Rattle.std.specs.Prelude.{Bool, cond, List, ℕ, min, replicate, Option, Some, None}
 use Rattle.lists.specs.Lists.{tab}
-use Rattle.text.specs.Fields.{field_at, rest_at}
-use Rattle.text.specs.Numbers.{is_number, value_of, is_dash, most}
-use Rattle.meaning.specs.Line.{Line, Tag, C, P, Form, number, number_or_dash, most_power, most_profile}
-use Rattle.line_form.specs.Reads.{in_forms, date_read_of}
-use Rattle.line_form.specs.Codes.{dash}
+use Rattle.text.specs.Fields.{field_at}
+use Rattle.text.specs.Numbers.{value_of, is_dash, most}
+use Rattle.meaning.specs.Line.{Form}
+use Rattle.rounding.specs.Units.{in_w}
+use Rattle.rounding.specs.declared.Watts.{Watts}
+use Rattle.line_form.specs.Reads.{in_forms}
 
-abbrev pub row_tag : Bool → Tag
-row_tag true = C
-row_tag false = P
+-- a point, none for a dash, and a profile value
+unfoldable pub point_in : List ℕ → Option Watts
+point_in f = cond (is_dash f) None (Some (in_w (min (value_of f) most)))
 
-abbrev pub row_form : Bool → Form
-row_form true = number_or_dash most_power
-row_form false = number 0 most_profile
+unfoldable pub profile_in : List ℕ → ℕ
+profile_in f = min (value_of f) most
 
-unfoldable pub is_value : Bool → List ℕ → Bool
-is_value dashes f = (dashes && is_dash f) || is_number f
+-- the first 20 fields of what is left of a line: whether each is in the form, and their values
+unfoldable pub are_values : Form → List ℕ → Bool
+are_values m t = in_forms (replicate 20 m) t
 
-unfoldable pub code_of : Bool → List ℕ → ℕ
-code_of dashes f = cond (dashes && is_dash f) dash (min (value_of f) most)
-
--- the codes of the 20 fields from the n-th on
-unfoldable pub row_at : Bool → Line → ℕ → List ℕ
-row_at dashes l n = tab 20 0 (λ h. code_of dashes (field_at l (n + h)))
-
--- the date and the codes of a line
-unfoldable pub row_read_of : Bool → Line → ValuesRead
-row_read_of dashes l = record { date = date_read_of l; codes = row_at dashes l 4 }
-
--- whether the 20 fields after the date are in their form
-unfoldable pub is_row_formed : Bool → Line → Bool
-is_row_formed dashes l = in_forms (replicate 20 (row_form dashes)) (rest_at l 4)
-
--- the code of a field, where it is in its form
-abbrev pub code_in : Bool → Field → Option ℕ
-code_in dashes (Number v) = Some v
-code_in dashes Edition = None
-code_in dashes (Byte b) = cond (dashes && eqb b 45) (Some dash) None
-code_in dashes Other = None
-
--- a function of a field gives its code
-abbrev pub Codes : (Field → Option ℕ → Type 0) → Bool → Type 0
-Codes post dashes = (f : Field) (r : Option ℕ) → post f r → r ≡ code_in dashes f
+unfoldable pub row_of : {A : Type 0} → (List ℕ → A) → List ℕ → List A
+row_of value t = tab 20 0 (λ h. value (field_at t h))

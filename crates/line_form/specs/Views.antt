@@ -3,6 +3,7 @@ use Rattle.std.specs.Prelude.{Option, Some, None}
 use Rattle.meaning.specs.Filing as meant
 use Rattle.meaning.specs.Filing.{no_meter, curve_meter, index_meter, site}
 use Rattle.meaning.specs.Line as lines
+use Rattle.rounding.specs.Units.{in_w}
 use Rattle.line_form.specs.declared.Tag.{Tag}
 use Rattle.line_form.specs.declared.Tag.TheVariants.{S, C, X, D, P, B, R, E}
 use Rattle.line_form.specs.declared.Meter.{Meter}
@@ -30,7 +31,7 @@ meter_view (Some Curve) = curve_meter
 meter_view (Some Index) = index_meter
 
 abbrev pub site_view : Site → meant.Site
-site_view s = site s.al s.filiere (meter_view s.meter) s.ps
+site_view s = site s.al s.filiere (meter_view s.meter) s.ps.0
 
 -- from the definitions to the code
 abbrev pub meter_repr : meant.Meter → Option Meter
@@ -39,4 +40,4 @@ meter_repr curve_meter = Some Curve
 meter_repr index_meter = Some Index
 
 abbrev pub site_repr : meant.Site → Site
-site_repr s = record { al = s.al; filiere = s.filiere; meter = meter_repr s.meter; ps = s.ps }
+site_repr s = record { al = s.al; filiere = s.filiere; meter = meter_repr s.meter; ps = in_w s.ps }

@@ -1,19 +1,18 @@
 // X and D lines: a date, and a number.
 ghost use Rattle.std.specs.Prelude.{◌≡◌};
-ghost use Rattle.meaning.specs.Line.{X, D, kind_of_letter};
-ghost use Rattle.line_form.specs.Fields.{EachLine};
+ghost use Rattle.meaning.specs.Line.{X, D, kind_of as kind_in};
 ghost use Rattle.line_form.specs.Reads.{where_formed, kind_where, reading_read_of, daily_read_of};
 
-use crate::Fields;
-use crate::parts::{byte_of, number_of, read_date};
+use crate::dates::read_date;
 use calendar::Date;
 use readings::Kind;
+use rounding::Energy;
 
 // What an X line says.
 #[derive(Clone, Copy)]
 pub struct ReadingRead {
     pub date: Date,
-    pub index: u64,
+    pub index: Energy,
     pub kind: Kind,
 }
 
@@ -24,29 +23,40 @@ pub struct DailyRead {
     pub sum: u64,
 }
 
-// The kind of a letter; none where it is none of the three (5).
-#[tactic(auto, using(crate::proofs::LetterLaws::kind_known))]
-fn known_kind(letter: u8) -> Option<Kind>
-    ensures { result ≡ kind_where (kind_of_letter letter) }
+// The kind of a field; none where it is none of the three letters (5).
+#[tactic(auto, using(crate::proofs::LetterLaws::kind_known, crate::proofs::LetterLaws::kind_one, crate::proofs::LetterLaws::kind_none), unfolding(crate::specs::Reads::kind_where))]
+fn kind_of(field: &[u8]) -> Option<Kind>
+    ensures { result ≡ kind_where (kind_in field.now) }
 {
-    Kind::try_from(letter).ok()
+    match field {
+        [letter] => Kind::try_from(*letter).ok(),
+        _ => None,
+    }
 }
 
-// The fields of an X line; none where one is not in its form (5).
-pub fn read_reading(fields: Fields) -> Option<ReadingRead>
-    ensures { EachLine fields (λ l. result ≡ where_formed X l (reading_read_of l)) }
+// What an X line says; none where a field is not in its form (5).
+#[tactic(auto, using(crate::proofs::Readers::reading_parts))]
+pub fn read_reading(line: &[u8]) -> Option<ReadingRead>
+    ensures { result ≡ where_formed X line.now (reading_read_of line.now) }
 {
-    let date = read_date(fields)?;
-    let index = number_of(fields.fields[4])?;
-    let kind = known_kind(byte_of(fields.fields[5])?)?;
-    Some(ReadingRead { date, index, kind })
+    let dated = read_date(line)?;
+    let index = text::split(dated.rest);
+    Some(ReadingRead {
+        date: dated.date,
+        index: Energy(text::number(index.field)?),
+        kind: kind_of(text::field(index.rest))?,
+    })
 }
 
-// The fields of a D line; none where one is not in its form (5).
-pub fn read_daily(fields: Fields) -> Option<DailyRead>
-    ensures { EachLine fields (λ l. result ≡ where_formed D l (daily_read_of l)) }
+// What a D line says; none where a field is not in its form (5).
+#[tactic(auto, using(crate::proofs::Readers::daily_parts))]
+pub fn read_daily(line: &[u8]) -> Option<DailyRead>
+    ensures { result ≡ where_formed D line.now (daily_read_of line.now) }
 {
-    let date = read_date(fields)?;
-    let sum = number_of(fields.fields[4])?;
-    Some(DailyRead { date, sum })
+    let dated = read_date(line)?;
+    let sum = text::number(text::field(dated.rest))?;
+    Some(DailyRead {
+        date: dated.date,
+        sum,
+    })
 }

@@ -1,31 +1,32 @@
 // S lines: edition, AL, filière, meter, PS.
 ghost use Rattle.std.specs.Prelude.{◌≡◌};
-ghost use Rattle.meaning.specs.Line.{S, meter_of_letter};
+ghost use Rattle.text.specs.Fields.{reads, edition};
+ghost use Rattle.meaning.specs.Line.{S, meter_of as meter_in};
 ghost use Rattle.meaning.specs.Refusals.{is_too_soon};
-ghost use Rattle.line_form.specs.Shapes.{is_edition};
-ghost use Rattle.line_form.specs.Fields.{EachLine};
 ghost use Rattle.line_form.specs.Views.{meter_repr};
 ghost use Rattle.line_form.specs.Reads.{where_formed, site_read_of};
 
-use crate::parts::{byte_of, number_of};
-use crate::{Field, Fields, Meter, Site};
+use crate::{Meter, Site};
+use rounding::Watts;
 
-// The meter of a letter, T or I; none for any other (5). A function and no TryFrom: its one caller wants an Option.
-#[tactic(auto, unfolding(meaning::specs::Line::meter_of_letter))]
-fn meter_of(letter: u8) -> Option<Meter>
-    ensures { result ≡ meter_repr (meter_of_letter letter) }
+// The meter of a field, T or I; none for any other (5).
+#[tactic(auto, using(crate::proofs::LetterLaws::meter_one, crate::proofs::LetterLaws::meter_none), unfolding(meaning::specs::Line::meter_of_letter))]
+fn meter_of(field: &[u8]) -> Option<Meter>
+    ensures { result ≡ meter_repr (meter_in field.now) }
 {
-    match letter {
-        b'T' => Some(Meter::Curve),
-        b'I' => Some(Meter::Index),
+    match field {
+        [b'T'] => Some(Meter::Curve),
+        [b'I'] => Some(Meter::Index),
         _ => None,
     }
 }
 
-fn is_edition(field: Field) -> bool
-    ensures { result ≡ is_edition field }
+// Whether a field is the text of the edition.
+#[tactic(auto, unfolding(text::specs::Fields::edition))]
+fn is_edition(field: &[u8]) -> bool
+    ensures { result ≡ reads field.now edition }
 {
-    matches!(field, Field::Edition)
+    text::reads(field, b"CF_96E/11")
 }
 
 // 9: filières 6 to 11 are certified only from AL 2023 on.
@@ -37,20 +38,21 @@ pub fn is_too_soon(al: u64, filiere: u64) -> bool
 }
 
 // The site of an S line; none where a field is not in its form (5).
-pub fn read_site(fields: Fields) -> Option<Site>
-    ensures { EachLine fields (λ l. result ≡ where_formed S l (site_read_of l)) }
+#[tactic(auto, using(crate::proofs::Readers::site_parts))]
+pub fn read_site(line: &[u8]) -> Option<Site>
+    ensures { result ≡ where_formed S line.now (site_read_of line.now) }
 {
-    if !is_edition(fields.fields[1]) {
+    let edition = text::split(text::rest(line));
+    if !is_edition(edition.field) {
         return None;
     }
-    let al = number_of(fields.fields[2])?;
-    let filiere = number_of(fields.fields[3])?;
-    let meter = meter_of(byte_of(fields.fields[4])?)?;
-    let ps = number_of(fields.fields[5])?;
+    let al = text::split(edition.rest);
+    let filiere = text::split(al.rest);
+    let meter = text::split(filiere.rest);
     Some(Site {
-        al,
-        filiere,
-        meter: Some(meter),
-        ps,
+        al: text::number(al.field)?,
+        filiere: text::number(filiere.field)?,
+        meter: Some(meter_of(meter.field)?),
+        ps: Watts(text::number(text::field(meter.rest))?),
     })
 }

@@ -1,16 +1,14 @@
-// 3: the tag of a line, from its fields.
+// 3: the tag of a line, and whether it has the tag's number of fields.
 ghost use Rattle.std.specs.Prelude.{◌≡◌};
-ghost use Rattle.meaning.specs.Line.{rank as rank_of, size, tag_of_letter};
-ghost use Rattle.line_form.specs.Fields.{EachLine};
+ghost use Rattle.meaning.specs.Line.{rank as rank_of, size, tag_of_letter, tag_of_field};
 ghost use Rattle.line_form.specs.Views.{tag_view, known_view};
 ghost use Rattle.line_form.specs.Tags.{known_tag};
 
-use crate::parts::byte_of;
-use crate::{Fields, Tag};
+use crate::Tag;
 
 // The tag of a letter. A function and no TryFrom: its one caller wants an Option, and would drop what an error holds.
 #[tactic(auto, unfolding(meaning::specs::Line::tag_of_letter))]
-fn tag_of(letter: u8) -> Option<Tag>
+fn tag_of_letter(letter: u8) -> Option<Tag>
     ensures { known_view result ≡ tag_of_letter letter }
 {
     match letter {
@@ -22,6 +20,17 @@ fn tag_of(letter: u8) -> Option<Tag>
         b'B' => Some(Tag::B),
         b'R' => Some(Tag::R),
         b'E' => Some(Tag::E),
+        _ => None,
+    }
+}
+
+// The tag of a field, which is the field as a whole.
+#[tactic(auto, using(crate::proofs::LetterLaws::tag_one, crate::proofs::LetterLaws::tag_none))]
+fn tag_of(field: &[u8]) -> Option<Tag>
+    ensures { known_view result ≡ tag_of_field field.now }
+{
+    match field {
+        [letter] => tag_of_letter(*letter),
         _ => None,
     }
 }
@@ -46,10 +55,11 @@ fn field_count(tag: Tag) -> usize
     }
 }
 
-// The tag of a legible line, none where it is unknown or the line does not have the tag's number of fields (3).
-pub fn known_tag(fields: Fields) -> Option<Tag>
-    ensures { EachLine fields (λ l. known_view result ≡ known_tag l) }
+// The tag of a line, none where it is unknown or the line does not have the tag's number of fields (3).
+#[tactic(auto, using(crate::proofs::TagLaws::tag_parts))]
+pub fn known_tag(line: &[u8]) -> Option<Tag>
+    ensures { known_view result ≡ known_tag line.now }
 {
-    let tag = tag_of(byte_of(fields.fields[0])?)?;
-    (fields.count == field_count(tag)).then_some(tag)
+    let tag = tag_of(text::field(line))?;
+    (text::tab_count(line) == field_count(tag) - 1).then_some(tag)
 }

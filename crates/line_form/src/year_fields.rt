@@ -1,11 +1,7 @@
 // B, R and E lines: a year; a year and its rate; a count.
 ghost use Rattle.std.specs.Prelude.{◌≡◌};
 ghost use Rattle.meaning.specs.Line.{B, R, E};
-ghost use Rattle.line_form.specs.Fields.{EachLine};
 ghost use Rattle.line_form.specs.Reads.{where_formed, capped_at, rate_read_of};
-
-use crate::Fields;
-use crate::parts::number_of;
 
 // What an R line says.
 #[derive(Clone, Copy)]
@@ -15,24 +11,31 @@ pub struct RateRead {
 }
 
 // The year of a B line; none where it is not in its form (5).
-pub fn read_year(fields: Fields) -> Option<u64>
-    ensures { EachLine fields (λ l. result ≡ where_formed B l (capped_at l 1)) }
+#[tactic(auto, using(crate::proofs::Readers::year_read))]
+pub fn read_year(line: &[u8]) -> Option<u64>
+    ensures { result ≡ where_formed B line.now (capped_at line.now 1) }
 {
-    number_of(fields.fields[1])
+    let year = text::rest(line);
+    text::number(text::field(year))
 }
 
 // The year and the rate of an R line; none where one is not in its form (5).
-pub fn read_rate(fields: Fields) -> Option<RateRead>
-    ensures { EachLine fields (λ l. result ≡ where_formed R l (rate_read_of l)) }
+#[tactic(auto, using(crate::proofs::Readers::rate_parts))]
+pub fn read_rate(line: &[u8]) -> Option<RateRead>
+    ensures { result ≡ where_formed R line.now (rate_read_of line.now) }
 {
-    let year = number_of(fields.fields[1])?;
-    let rate = number_of(fields.fields[2])?;
-    Some(RateRead { year, rate })
+    let year = text::split(text::rest(line));
+    Some(RateRead {
+        year: text::number(year.field)?,
+        rate: text::number(text::field(year.rest))?,
+    })
 }
 
 // The count of an E line; none where it is not in its form (5).
-pub fn read_count(fields: Fields) -> Option<u64>
-    ensures { EachLine fields (λ l. result ≡ where_formed E l (capped_at l 1)) }
+#[tactic(auto, using(crate::proofs::Readers::count_read))]
+pub fn read_count(line: &[u8]) -> Option<u64>
+    ensures { result ≡ where_formed E line.now (capped_at line.now 1) }
 {
-    number_of(fields.fields[1])
+    let count = text::rest(line);
+    text::number(text::field(count))
 }

@@ -1,7 +1,6 @@
 -- C and P: the refusal of a line and what an accepted one says, by the checks of the code in order.
 use Rattle.std.specs.Prelude.{Result, Ok}
 use Rattle.std.specs.Bool.{then_some}
-use mathlib.Core.List.{List}
 use mathlib.Core.Option.{Option, none, some}
 use Rattle.refusals.specs.Refusals.{unless_reason}
 use mathlib.Core.Path.{◌≡◌, refl, ap, sym, ◌∙◌}
@@ -25,7 +24,6 @@ use Rattle.line_form.proofs.Forms.{malformed}
 use Rattle.line_form.proofs.Checks.{no_date_lem}
 use Rattle.line_form.specs.Codes.{point_row, profile_row, is_point_outside, is_profile_outside}
 use Rattle.line_form.specs.Reads.{where_formed, is_formed, date_read_of, points_read_of, profiles_read_of}
-use Rattle.line_form.specs.declared.values.ValuesRead.{ValuesRead}
 use Rattle.line_form.specs.ValueRanges.{is_points_outside, is_profiles_outside}
 use Rattle.calendar.specs.declared.Date.{Date}
 use Rattle.line_form.proofs.ValueChecks.{outside_c, outside_p, exact_c, exact_p}
@@ -36,7 +34,6 @@ use Rattle.line_steps.specs.Places.{points_misplaced}
 use Rattle.line_checks.proofs.Dates.{history_low, key_on, winter_on_lem}
 use Rattle.line_steps.specs.PointAnswers.{date_on, points_on, profiles_on, winter_checked}
 use Rattle.line_steps.specs.declared.points_and_profiles.checks.DateChecked.{DateChecked}
-use Rattle.line_steps.specs.declared.points_and_profiles.checks.RowChecked.{RowChecked}
 
 -- ---- C and P together: a tag t of winter dates, whether the line is misplaced, and whether some value is outside its range
 pub record Winter (t : Tag) (l : Line) (b : Before) (h : Years) (latest : ℕ) (late above : Bool) : Type 0 where
@@ -113,26 +110,26 @@ module _ (t : Tag) (l : Line) (b : Before) (al f latest : ℕ) (late above : Boo
       ∙ told t b l _ (found d v) c.known asks
       ∙ after_two late (is_formed t l) d (λ x. winter_checked h x above latest) _ (next_dated out true d latest (λ w. Ok (found d w)) _ refl)
 
--- with its values
-row_told : (t : Tag) (l : Line) (b : Before) (al f latest : ℕ) (late : Bool) (p : ℕ → Bool) (cs : List ℕ) → Winter t l b (history_years al f) latest late (any p cs)
-    → unless_reason {A = RowChecked} (refusal b l) (record { date = date_on t l; codes = cs })
-    ≡ and_then (in_order {A = ValuesRead} late (where_formed t l (record { date = date_read_of l; codes = cs })))
-    (λ v. and_then (winter_checked (history_years al f) v.date (any p v.codes) latest) (λ d. Ok (record { date = d; codes = v.codes })))
-unfolding where_formed unless_reason in_order
-row_told t l b al f latest late p cs c = sym (given (refusal b l)) ∙ ap with_row (winter_told t l b al f latest late (any p cs) c) ∙ chained late (is_formed t l)
-  where
-    with_row : Result DateChecked Refusal → Result RowChecked Refusal
-    with_row r = and_then r (λ d. Ok (record { date = d; codes = cs }))
+-- with its values, which the reader of its tag gives (read), and which the code checks (check)
+module _ {R K : Type 0} (read : R) (check : R → Result K Refusal) (row : DateChecked → K) where
+  row_told : (t : Tag) (l : Line) (b : Before) (al f latest : ℕ) (late above : Bool) → Winter t l b (history_years al f) latest late above
+      → check read ≡ and_then (winter_checked (history_years al f) (date_read_of l) above latest) (λ d. Ok (row d))
+      → unless_reason (refusal b l) (row (date_on t l)) ≡ and_then (in_order late (where_formed t l read)) check
+  unfolding where_formed unless_reason in_order
+  row_told t l b al f latest late above c e = sym (given (refusal b l)) ∙ ap with_row (winter_told t l b al f latest late above c) ∙ chained late (is_formed t l)
+    where
+      with_row : Result DateChecked Refusal → Result K Refusal
+      with_row r = and_then r (λ d. Ok (row d))
 
-    given : (o : Option Reason) → with_row (unless_reason o (date_on t l)) ≡ unless_reason o (record { date = date_on t l; codes = cs })
-    given none = refl
-    given (some y) = refl
+      given : (o : Option Reason) → with_row (unless_reason o (date_on t l)) ≡ unless_reason o (row (date_on t l))
+      given none = refl
+      given (some y) = refl
 
-    chained : (m q : Bool) → with_row (and_then (in_order m (then_some q (date_read_of l))) (λ d. winter_checked (history_years al f) d (any p cs) latest))
-        ≡ and_then (in_order {A = ValuesRead} m (then_some q (record { date = date_read_of l; codes = cs }))) (λ v. and_then (winter_checked (history_years al f) v.date (any p v.codes) latest) (λ d. Ok (record { date = d; codes = v.codes })))
-    chained true q = refl
-    chained false true = refl
-    chained false false = refl
+      chained : (m q : Bool) → with_row (and_then (in_order m (then_some q (date_read_of l))) (λ d. winter_checked (history_years al f) d above latest))
+          ≡ and_then (in_order m (then_some q read)) check
+      chained true q = refl
+      chained false true = sym e
+      chained false false = refl
 
 -- ---- C
 points_winter : (l : Line) (last al f latest : ℕ) (m : Meter) → Known C l
@@ -156,9 +153,9 @@ points_winter l last al f latest m k =
 pub points_told : (l : Line) (last al f latest : ℕ) (m : Meter) → Known C l
     → unless_reason (refusal (before_points last m (history_years al f) latest) l) (points_on l)
     ≡ and_then (in_order (points_misplaced last m) (where_formed C l (points_read_of l)))
-    (λ v. and_then (winter_checked (history_years al f) v.date (any is_point_outside v.codes) latest) (λ d. Ok (record { date = d; codes = v.codes })))
+    (λ v. and_then (winter_checked (history_years al f) v.date (any is_point_outside v.points) latest) (λ d. Ok (record { date = d; points = v.points })))
 unfolding points_on points_read_of
-points_told l last al f latest m k = row_told C l _ al f latest _ is_point_outside (point_row l) (points_winter l last al f latest m k)
+points_told l last al f latest m k = row_told _ _ (λ d. record { date = d; points = point_row l }) C l _ al f latest _ _ (points_winter l last al f latest m k) refl
 
 -- ---- P
 profiles_winter : (l : Line) (last al f latest : ℕ) → Known P l
@@ -182,6 +179,6 @@ profiles_winter l last al f latest k =
 pub profiles_told : (l : Line) (last al f latest : ℕ) → Known P l
     → unless_reason (refusal (before_rising last (history_years al f) latest) l) (profiles_on l)
     ≡ and_then (in_order (is_misplaced last P) (where_formed P l (profiles_read_of l)))
-    (λ v. and_then (winter_checked (history_years al f) v.date (any is_profile_outside v.codes) latest) (λ d. Ok (record { date = d; codes = v.codes })))
+    (λ v. and_then (winter_checked (history_years al f) v.date (any is_profile_outside v.values) latest) (λ d. Ok (record { date = d; values = v.values })))
 unfolding profiles_on profiles_read_of
-profiles_told l last al f latest k = row_told P l _ al f latest _ is_profile_outside (profile_row l) (profiles_winter l last al f latest k)
+profiles_told l last al f latest k = row_told _ _ (λ d. record { date = d; values = profile_row l }) P l _ al f latest _ _ (profiles_winter l last al f latest k) refl

@@ -4,3 +4,4 @@ pub mod PointSteps
 pub mod OnAxis
 pub mod ReadingSteps
 pub mod YearSteps
+pub mod Dispatch

@@ -15,6 +15,7 @@ use Rattle.calendar.specs.Answers.{position_in}
 use Rattle.text.specs.Fields.{field_at}
 use Rattle.meaning.specs.Line.{Line, X, D, kind_of, key_of, year_on, month_on, day_on, most_index, most_daily}
 use Rattle.meaning.specs.Refusals.{outside, no_date, holds, refusal, is_outside, has_no_date}
+use Rattle.rounding.specs.declared.Energy.{Energy}
 use Rattle.readings.specs.Readings.{kind_repr}
 use Rattle.line_form.specs.Reads.{where_formed, is_formed, date_read_of, reading_read_of, daily_read_of}
 use Rattle.line_form.specs.Ranges.{is_reading_outside, is_daily_outside, no_date_for}
@@ -58,7 +59,7 @@ module _ (l : Line) (last al f latest previous readings : ℕ) (k : Known X l) w
   unfolding is_reading_outside
   reading_year o =
       let h = history_years al f in
-      not-false _ (or_parts (not (among (axis_years h) (reading_read_of l).date.year)) (ltb most_index (reading_read_of l).index) (sym (outside_x h l (early_history al f) k.tag) ∙ o)).0
+      not-false _ (or_parts (not (among (axis_years h) (reading_read_of l).date.year)) (ltb most_index (reading_read_of l).index.0) (sym (outside_x h l (early_history al f) k.tag) ∙ o)).0
 
   reading_key : is_outside (history_years al f) l ≡ false → has_no_date l ≡ false → key_for (reading_read_of l).date.year (reading_read_of l).date.month (reading_read_of l).date.day ≡ key_of X l
   unfolding reading_read_of date_read_of
@@ -79,11 +80,11 @@ module _ (l : Line) (last al f latest previous readings : ℕ) (k : Known X l) w
   reading_asks : Asks (before_reading last (history_years al f) latest previous readings) l (record {
     misplaced = is_misplaced last X;
     malformed = not (is_formed X l);
-    outside = not (among (axis_years (history_years al f)) (reading_read_of l).date.year) || ltb most_index (reading_read_of l).index;
+    outside = not (among (axis_years (history_years al f)) (reading_read_of l).date.year) || ltb most_index (reading_read_of l).index.0;
     no_date = no_date_for false (reading_read_of l).date.year (reading_read_of l).date.month (reading_read_of l).date.day;
     not_later = is_not_later latest (key_for (reading_read_of l).date.year (reading_read_of l).date.month (reading_read_of l).date.day);
     too_soon = false;
-    falling = ltb (reading_read_of l).index previous;
+    falling = ltb (reading_read_of l).index.0 previous;
     too_many = leb 600 readings;
     miscounted = false;
   })
@@ -100,7 +101,7 @@ module _ (l : Line) (last al f latest previous readings : ℕ) (k : Known X l) w
         date_is = λ o. unfold reading_read_of in unfold date_read_of in no_date_lem X l (reading_read_of l).date.year u tt (exact_x h l e u o).0;
         later_is = λ o d. rw u (ap (is_not_later latest) (sym (reading_key o d)));
         soon_is = λ _. never_soon b l X u refl;
-        falling_is = λ o. rw u (ap (λ (v : ℕ). ltb v previous) (sym (exact_x h l e u o).1));
+        falling_is = λ o. rw u (ap (λ (v : Energy). ltb v.0 previous) (sym (exact_x h l e u o).1));
         excess_is = rw u refl;
         count_is = λ _. no_count b l X u refl;
       }
@@ -116,8 +117,8 @@ module _ (l : Line) (last al f latest previous readings : ℕ) (k : Known X l) w
 
   pub reading_told : unless_reason (refusal (before_reading last (history_years al f) latest previous readings) l) (reading_on (history_years al f) l)
       ≡ and_then (in_order (is_misplaced last X) (where_formed X l (reading_read_of l)))
-      (λ r. and_then (axis_checked (history_years al f) r.date (ltb most_index r.index) latest)
-      (λ d. and_then (refused_if (ltb r.index previous) Falling)
+      (λ r. and_then (axis_checked (history_years al f) r.date (ltb most_index r.index.0) latest)
+      (λ d. and_then (refused_if (ltb r.index.0 previous) Falling)
       (λ _. and_then (refused_if (leb 600 readings) TooMany)
       (λ _. Ok (record { position = d.position; index = r.index; kind = r.kind; key = d.key })))))
   unfolding holds before_reading before_like where_formed reading_found
@@ -129,9 +130,9 @@ module _ (l : Line) (last al f latest previous readings : ℕ) (k : Known X l) w
       told_same (refusal b l) (reading_on h l) (reading_found r v) (λ q. reading_same (clear b l q outside) (clear b l q no_date))
       ∙ told X b l _ (reading_found r v) k reading_asks
       ∙ after_two (is_misplaced last X) (is_formed X l) r _ _
-      (next_axis h r.date (ltb most_index r.index) latest
-      (λ d. and_then (refused_if (ltb r.index previous) Falling) (λ _. and_then (refused_if (leb 600 readings) TooMany) (λ _. Ok (record { position = d.position; index = r.index; kind = r.kind; key = d.key })))) _
-      (next_one (ltb r.index previous) Falling _ ∙ ap (λ q. and_then (refused_if (ltb r.index previous) Falling) (λ _. q)) (next_one (leb 600 readings) TooMany (Ok (reading_found r v)))))
+      (next_axis h r.date (ltb most_index r.index.0) latest
+      (λ d. and_then (refused_if (ltb r.index.0 previous) Falling) (λ _. and_then (refused_if (leb 600 readings) TooMany) (λ _. Ok (record { position = d.position; index = r.index; kind = r.kind; key = d.key })))) _
+      (next_one (ltb r.index.0 previous) Falling _ ∙ ap (λ q. and_then (refused_if (ltb r.index.0 previous) Falling) (λ _. q)) (next_one (leb 600 readings) TooMany (Ok (reading_found r v)))))
 
 -- ---- D
 module _ (l : Line) (last al f latest : ℕ) (k : Known D l) where

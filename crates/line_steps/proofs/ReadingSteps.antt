@@ -50,7 +50,7 @@ module _ (s : Rec) (l : Line) (k : Known X l) (r : Result ReadingChecked Refusal
     pub reading_none : refusal (before_of s) l ≡ none
     reading_none = (told_ok (refusal (before_of s) l) (reading_on (history_years s.site.al s.site.filiere) l) j (sym q ∙ reading_seen)).0
 
-    pub reading_say : (j.position ≡ position_on (axis_of_rec s) l) × (j.index ≡ number_at l 4) × (kind_view j.kind ≡ kind_of (field_at l 5)) × (j.key ≡ key_of X l)
+    pub reading_say : (j.position ≡ position_on (axis_of_rec s) l) × (j.index.0 ≡ number_at l 4) × (kind_view j.kind ≡ kind_of (field_at l 5)) × (j.key ≡ key_of X l)
     unfolding reading_on
     reading_say =
         rw (told_ok (refusal (before_of s) l) (reading_on (history_years s.site.al s.site.filiere) l) j (sym q ∙ reading_seen)).1

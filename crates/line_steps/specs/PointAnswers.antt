@@ -10,18 +10,19 @@ use Rattle.line_checks.specs.Order.{and_then}
 use Rattle.line_checks.specs.Places.{place_or, dated_checks}
 use Rattle.line_form.specs.Codes.{point_row, profile_row}
 use Rattle.line_steps.specs.declared.points_and_profiles.checks.DateChecked.{DateChecked}
-use Rattle.line_steps.specs.declared.points_and_profiles.checks.RowChecked.{RowChecked}
+use Rattle.line_steps.specs.declared.points_and_profiles.checks.PointsChecked.{PointsChecked}
+use Rattle.line_steps.specs.declared.points_and_profiles.checks.ProfilesChecked.{ProfilesChecked}
 
 -- its date
 unfoldable pub date_on : Tag → Line → DateChecked
 date_on t l = record { year = year_on l; place = winter_on l; key = key_of t l }
 
--- its date and its values
-unfoldable pub points_on : Line → RowChecked
-points_on l = record { date = date_on C l; codes = point_row l }
+-- its date, and its points or its profile values
+unfoldable pub points_on : Line → PointsChecked
+points_on l = record { date = date_on C l; points = point_row l }
 
-unfoldable pub profiles_on : Line → RowChecked
-profiles_on l = record { date = date_on P l; codes = profile_row l }
+unfoldable pub profiles_on : Line → ProfilesChecked
+profiles_on l = record { date = date_on P l; values = profile_row l }
 
 -- by the history years, the date that it says, whether a value is above its range, and the last date of its tag
 unfoldable pub winter_checked : Years → Date → Bool → ℕ → Result DateChecked Refusal

@@ -5,6 +5,7 @@ use Rattle.calendar.specs.Spans.{among, axis_years, position_of}
 use Rattle.calendar.specs.Answers.{position_in}
 use Rattle.text.specs.Fields.{field_at}
 use Rattle.meaning.specs.Line.{Line, X, D, number_at, year_on, month_on, day_on, kind_of, key_of}
+use Rattle.rounding.specs.Units.{in_wh}
 use Rattle.readings.specs.Readings.{kind_repr}
 use Rattle.refusals.specs.declared.Refusal.{Refusal}
 use Rattle.calendar.specs.declared.Date.{Date}
@@ -18,7 +19,7 @@ use Rattle.line_steps.specs.declared.readings_and_sums.checks.DailyChecked.{Dail
 unfoldable pub reading_on : Years → Line → ReadingChecked
 reading_on h l = record {
   position = position_of (axis_years h) (year_on l) (month_on l) (day_on l);
-  index = number_at l 4;
+  index = in_wh (number_at l 4);
   kind = kind_repr (kind_of (field_at l 5));
   key = key_of X l;
 }

@@ -2,4 +2,4 @@
 mod checks; // the refusals
 mod changes; // the changes
 
-pub use changes::{break_line, rate_line};
+pub(crate) use changes::{break_line, rate_line};

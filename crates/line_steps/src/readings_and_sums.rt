@@ -2,4 +2,4 @@
 mod checks; // the refusals: a date of an axis year, and a number
 mod changes; // the changes: the progress, and a daily sum at its position
 
-pub use changes::{daily_line, reading_line};
+pub(crate) use changes::{daily_line, reading_line};

@@ -2,4 +2,4 @@
 mod checks; // the refusals
 mod changes; // the changes
 
-pub use changes::{end_line, site_line};
+pub(crate) use changes::{end_line, site_line};

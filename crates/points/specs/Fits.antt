@@ -1,5 +1,5 @@
 -- What is known of a site and its lists once 1 and 14 to 17 are checked.
-use Rattle.std.specs.Prelude.{◌≡◌, List, ℕ, ◌≤◌, length, get_or}
+use Rattle.std.specs.Prelude.{◌≡◌, List, ℕ, ◌≤◌, ◌<◌, T, length, get_or}
 use Rattle.meaning.specs.Blocks.{slots_size}
 use Rattle.points.specs.declared.own.SiteFactors.{SiteFactors}
 use Rattle.points.specs.Sources.{Day}
@@ -19,8 +19,10 @@ RatesFit rates = (k : ℕ) → RateFits (get_or rates k 0)
 
 -- E and daily total of the interval around a day
 pub record YearFits (y : YearOnDay) : Type 0 where
-  pub energy : y.energy ≤ 1000000000000
+  pub energy : y.energy.0 ≤ 1000000000000
   pub total : y.total ≤ 13815826560
+  -- by 17
+  pub nonzero : T y.is_donor → 0 < y.total
 
 pub record DayFits (b : SiteFactors) (d : Day) : Type 0 where
   pub points : PointsFit b.al d.near d.far

@@ -21,4 +21,4 @@ profile_in slots k w h = get_or slots (row_size * k + slot_at w h) 0
 
 -- the profiled point, from what was looked up of each year for the day
 unfoldable pub profiled_on : List ℕ → List YearOnDay → ℕ → ℕ → ℕ → Origin
-profiled_on slots years k w h = by_profile (get_or years k no_year).energy (profile_in slots k w h) (get_or years k no_year).total
+profiled_on slots years k w h = by_profile (get_or years k no_year).energy.0 (profile_in slots k w h) (get_or years k no_year).total

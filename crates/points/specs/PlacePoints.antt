@@ -1,24 +1,20 @@
 -- The point of a place before its rate: missing, a power, or refusal 18 (document 01, Cases; Stops that come from the state).
-use Rattle.std.specs.Prelude.{Bool, true, false, ℕ, Option, Some, None, Result, Ok, Err}
+use Rattle.std.specs.Prelude.{ℕ, Option, Some, None, Result}
 use Rattle.std.proofs.Math.Option as math
-use Rattle.rounding.specs.Answers.{in_mw}
+use Rattle.rounding.specs.Points.{exceeds}
+use Rattle.rounding.specs.Units.{in_mw}
+use Rattle.rounding.specs.Answers.{Limited, limited}
 use Rattle.rounding.specs.declared.Power.{Power}
 use Rattle.rounding.specs.declared.Exceeds.{Exceeds}
-use Rattle.meaning.specs.Points.{Source, rounded_point, source_exceeds}
 
 abbrev pub PlacePoint : Type 0
 PlacePoint = Result (Option Power) Exceeds
 
-unfoldable pub place_point_where : Bool → math.Option ℕ → PlacePoint
-place_point_where true p = Err (record {})
-place_point_where false math.none = Ok None
-place_point_where false (math.some n) = Ok (Some (in_mw n))
+-- a rounded point, if any, as the code has it
+unfoldable pub point_repr : math.Option ℕ → Option Power
+point_repr math.none = None
+point_repr (math.some n) = Some (in_mw n)
 
--- the point from a source: refusal 18 where it exceeds, else its rounded point, if any
-unfoldable pub place_point_of : Source → PlacePoint
-place_point_of s = place_point_where (source_exceeds s) (rounded_point s)
-
--- a rounded point as the point of a place
-abbrev pub place_point_by : Result Power Exceeds → PlacePoint
-place_point_by (Ok p) = Ok (Some p)
-place_point_by (Err e) = Err e
+-- a rounded number of mW as the point of a place, or 18
+unfoldable pub limited_place : ℕ → Limited (Option Power)
+limited_place n = limited (exceeds n) (Some (in_mw n))

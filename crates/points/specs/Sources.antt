@@ -1,5 +1,5 @@
 -- Where each point comes from, by the lists of a site (document 01, Cases; Calls and the lines of a file).
-use Rattle.std.specs.Prelude.{Bool, List, ℕ, ◌+◌, get_or}
+use Rattle.std.specs.Prelude.{Bool, true, false, List, ℕ, ◌+◌, get_or}
 use Rattle.meaning.specs.Cases.{Case, case_m, case1, case2, case3, case4, case_p, case5, case6}
 use Rattle.meaning.specs.Points.{Donor, Source, own, from_default, own_of, rebuilt_by}
 use Rattle.points.specs.declared.own.SiteFactors.{SiteFactors}
@@ -28,8 +28,19 @@ unfoldable pub index_donors_in : SiteFactors → Day → ℕ → ℕ → List Do
 index_donors_in b d w h = donors_among b.count d.cas (index_origin d.slots d.years w h)
 
 -- ---- the source of a point, by the year's case
+-- profiled from the year's own index
+abbrev pub is_profiled : Case → Bool
+is_profiled case_m = false
+is_profiled case1 = true
+is_profiled case2 = false
+is_profiled case3 = false
+is_profiled case4 = false
+is_profiled case_p = true
+is_profiled case5 = false
+is_profiled case6 = false
+
 unfoldable pub default_in : SiteFactors → Day → ℕ → ℕ → ℕ → Source
-default_in b d k w h = from_default b.ps b.theta (profile_in d.slots k w h) (get_or d.cas k 0) b.count b.ca_sum
+default_in b d k w h = from_default b.ps.0 b.theta (profile_in d.slots k w h) (get_or d.cas k 0) b.count b.ca_sum
 
 unfoldable pub source_in : SiteFactors → Day → Case → ℕ → ℕ → ℕ → Source
 source_in b d case_m k w h = own_of (read_in b.al d.near d.far (b.first + k) w h)

@@ -1,6 +1,7 @@
 // A winter day of the history years: its place, the lent blocks, and what its points need of each year.
-ghost use Rattle.std.specs.Prelude.{◌≡◌, ◌<◌};
+ghost use Rattle.std.specs.Prelude.{◌≡◌, ◌<◌, T, get_or};
 ghost use Rattle.meaning.specs.Points.{own};
+ghost use Rattle.history.specs.Years.{no_year};
 ghost use Rattle.points.specs.OwnPoints.{code_in, profile_in, profiled_on};
 ghost use Rattle.points.specs.OwnFits.{SiteFactorsFit, PlacePointIs, ProfileIs};
 ghost use Rattle.points.specs.Sources.{day};
@@ -56,10 +57,10 @@ impl HalfHour<'_> {
         u64::from(value)
     }
 
-    // A year's point, profiled from the interval around the day.
+    // An index donor's point, profiled from the interval around the day.
     #[tactic(auto, unfolding(crate::specs::OwnPoints::profiled_on))]
     pub(crate) fn profiled(self, k: usize) -> Result<Option<Power>, Exceeds>
-        requires { k < 10 }
+        requires { (k < 10) × T (get_or self.day.now.years.now k no_year).is_donor }
         ensures { PlacePointIs (own (profiled_on self.entry.day.now.blocks.now.slots.now self.entry.day.now.years.now k self.entry.day.now.w self.entry.h)) result }
     {
         let year = &self.day.years[k];

@@ -2,6 +2,7 @@
 ghost use Rattle.std.specs.Prelude.{◌≡◌, ℕ, ◌≤◌, ◌<◌, get_or, Ok};
 ghost use Rattle.std.proofs.Math.Option as math;
 ghost use Rattle.meaning.specs.Points.{Origin, own_of, rebuilt_by};
+ghost use Rattle.rounding.specs.Answers.{limit_view};
 ghost use Rattle.history.specs.Fits.{AtMost};
 ghost use Rattle.points.specs.OwnFits.{PlacePointFits, PlacePointIs};
 ghost use Rattle.points.specs.DonorOrigins.{curve_origin, index_origin, donors_among};
@@ -36,10 +37,10 @@ impl DonorSums {
     }
 
     // The rebuilt point: CA of the target times the sum of the donors' points, over the sum of their CA. No donor has a CA of 0.
-    #[tactic(auto, unfolding(crate::specs::Sums::rebuilt_from))]
+    #[tactic(auto, using(crate::proofs::Gathered::none_rebuilt))]
     fn rebuilt(self, ca: u64) -> Result<Option<Power>, Exceeds>
         requires { (ca ≤ 9_999) × SumsFit 10 self }
-        ensures { result ≡ rebuilt_from ca self }
+        ensures { limit_view result ≡ rebuilt_from ca self }
     {
         if self.ca_sum == 0 {
             return Ok(None);
@@ -83,7 +84,7 @@ fn donor_sums<F: Fn(usize) -> Result<Option<Power>, Exceeds>>(
     requires callable { (k : ℕ) → k < n → F.pre donor k }
     requires fits { (k : ℕ) (r : _) → k < n → F.post donor k r → PlacePointFits r }
     ensures fit { DonorsFit n result }
-    ensures are { (given : ℕ → math.Option Origin) → ((k : ℕ) (r : _) → k < n → F.post donor k r → PlacePointIs (own_of (given k)) r) → result ≡ donors_of (donors_among n cas.now given) }
+    ensures are { (given : ℕ → math.Option Origin) → ((k : ℕ) (r : _) → k < n → F.post donor k r → PlacePointIs (own_of (given k)) r) → limit_view result ≡ donors_of (donors_among n cas.now given) }
 {
     let mut sums = DonorSums {
         points: Power(0),

@@ -7,10 +7,11 @@ mod days; // what the points of a winter day are computed from
 mod own; // a year's own points: as read, or profiled from its energy; and the default power
 mod donors; // the sums over donors, and the point rebuilt from them
 
-ghost use Rattle.std.specs.Prelude.{◌<◌};
+ghost use Rattle.std.specs.Prelude.{◌<◌, T, get_or};
 ghost use Rattle.points.specs.OwnFits.{PlacePointIs};
 ghost use Rattle.history.specs.Cases.{case_view};
-ghost use Rattle.points.specs.Sources.{source_in};
+ghost use Rattle.history.specs.Years.{no_year};
+ghost use Rattle.points.specs.Sources.{source_in, is_profiled};
 ghost use Rattle.points.specs.Days.{day_view};
 
 use crate::days::HalfHour;
@@ -29,9 +30,10 @@ pub struct TargetYear {
     pub rate: u64,
 }
 
-// A missing point is `None`; refusal 18 is the error.
+// A missing point is `None`; refusal 18 is the error. A year that is profiled has a valid index, and the date.
 pub fn point_of(day: &WinterDay<'_>, target: TargetYear, h: usize) -> Result<Option<Power>, Exceeds>
-    requires { (target.k < day.now.site.now.count) × (h < 20) }
+    requires bounds { (target.k < day.now.site.now.count) × (h < 20) }
+    requires own_index { T (is_profiled (case_view target.case)) → T (get_or day.now.years.now target.k no_year).is_donor }
     ensures { PlacePointIs (source_in day.now.site.now (day_view day.now) (case_view target.case) target.k day.now.w h) result }
 {
     let at = HalfHour { day, h };

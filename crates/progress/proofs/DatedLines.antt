@@ -1,4 +1,5 @@
 -- An accepted C, P, D or X line: where it is stored, and the resulting step.
+use Rattle.std.specs.Prelude.{Option}
 use mathlib.Core.Path.{◌≡◌, refl, ◌∙◌}
 use mathlib.Core.Bool.{Bool, true, false, not, cond}
 use mathlib.Core.List.{List}
@@ -24,6 +25,7 @@ use Rattle.meaning.specs.Record.{Rec, in_state, site_of_rec, history_of_site, hi
 use Rattle.meaning.specs.Calls.{rec_after, blocks_after, last_dates_after, tallies_after, one_more, position_on, point_codes, profile_values}
 use Rattle.meaning.proofs.Passed.{passed}
 use Rattle.meaning.proofs.Accepted.{accepted_c, accepted_p, accepted_d, accepted_x}
+use Rattle.rounding.specs.declared.Watts.{Watts}
 use Rattle.line_form.specs.Codes.{point_row, profile_row}
 use Rattle.blocks.specs.Stores.{slots_put}
 use Rattle.progress.specs.Steps.{with_no_reading, stores_after, step_of, no_block, point_blocks, slot_block, daily_block}
@@ -86,8 +88,8 @@ module _ (s : Rec) (l : Line) (e : refusal (before_of s) l ≡ none) where
   position_x u = rw (axis_given s (year_on l) (accepted_x (before_of s) l e u).year)
 
   -- ---- answer, record and blocks, from the numbers in the code
-  pub took_c : tag_of l ≡ C → (near far near' far' codes : List ℕ) (y w k : ℕ) → (y ≡ year_on l) × (w ≡ winter_on l) × (k ≡ key_of C l) → codes ≡ point_row l
-      → near' ≡ near_put s.site.al y w codes near → far' ≡ far_put s.site.al y w codes far
+  pub took_c : tag_of l ≡ C → (near far near' far' : List ℕ) (points : List (Option Watts)) (y w k : ℕ) → (y ≡ year_on l) × (w ≡ winter_on l) × (k ≡ key_of C l) → points ≡ point_row l
+      → near' ≡ near_put s.site.al y w points near → far' ≡ far_put s.site.al y w points far
       → with_no_reading 0 (record {
         state = s.state;
         count = s.count;
@@ -100,7 +102,7 @@ module _ (s : Rec) (l : Line) (e : refusal (before_of s) l ≡ none) where
       }) (point_blocks near' far')
       ≡ step_of s l (point_blocks near far)
   unfolding rec_after stores_after blocks_after last_dates_after tallies_after in_state near_put far_put
-  took_c u near far near' far' codes y w k q ec en ef =
+  took_c u near far near' far' points y w k q ec en ef =
       let near-is : near' ≡ cond (is_near s.site.al (year_on l)) (sets near (near_start s.site.al (year_on l) + slot_at (winter_on l) 0) (point_codes l)) near
       = en ∙ rw (q.0, q.1, ec, codes_c (before_of s) l e u) in
       let far-is : far' ≡ cond (not (is_near s.site.al (year_on l))) (sets far (far_start s.site.al (year_on l) + slot_at (winter_on l) 0) (point_codes l)) far
@@ -111,8 +113,8 @@ module _ (s : Rec) (l : Line) (e : refusal (before_of s) l ≡ none) where
       other true x y = refl
       other false x y = refl
 
-  pub took_p : tag_of l ≡ P → (slots slots' codes : List ℕ) (h : Years) (y w k : ℕ) → (y ≡ year_on l) × (w ≡ winter_on l) × (k ≡ key_of P l) → h ≡ history_of_rec s → codes ≡ profile_row l
-      → slots' ≡ slots_put h.first y w codes slots
+  pub took_p : tag_of l ≡ P → (slots slots' values : List ℕ) (h : Years) (y w k : ℕ) → (y ≡ year_on l) × (w ≡ winter_on l) × (k ≡ key_of P l) → h ≡ history_of_rec s → values ≡ profile_row l
+      → slots' ≡ slots_put h.first y w values slots
       → with_no_reading 0 (record {
         state = s.state;
         count = s.count;
@@ -130,7 +132,7 @@ module _ (s : Rec) (l : Line) (e : refusal (before_of s) l ≡ none) where
       }) (slot_block slots')
       ≡ step_of s l (slot_block slots)
   unfolding rec_after stores_after blocks_after last_dates_after tallies_after in_state one_more slots_put
-  took_p u slots slots' codes h y w k q eh ec es =
+  took_p u slots slots' values h y w k q eh ec es =
       let slots-is : slots' ≡ sets slots (slots_start (history_of_rec s).first (year_on l) + slot_at (winter_on l) 0) (profile_values l)
       = es ∙ rw (q.0, q.1, eh, ec, codes_p (before_of s) l e u) in
       rw (slots-is, q.0, q.2, eh) (step_took s l (slot_block slots) P u e)

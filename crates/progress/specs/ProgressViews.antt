@@ -29,7 +29,7 @@ rec_of st n p = record {
   last = p.last;
   site = site_view p.site;
   readings = p.readings;
-  last_index = p.last_index;
+  last_index = p.last_index.0;
   lasts = last_dates_view p.lasts;
   tallies = tallies_view p.tallies;
 }
@@ -40,7 +40,7 @@ open_rec n p = rec_of Open n p
 -- an accepted line: the record and the blocks after it, and its reading if it has one
 abbrev pub taken_view : Rec → Option Reading → Blocks → Stepped
 taken_view s None w = with_no_reading 0 s w
-taken_view s (Some r) w = record { number = 0; after = s; reads = true; position = r.position; index = r.count; kind = kind_view r.kind; blocks = w }
+taken_view s (Some r) w = record { number = 0; after = s; reads = true; position = r.position; index = r.count.0; kind = kind_view r.kind; blocks = w }
 
 -- a line on an open record of count n, with the progress and the blocks after it: refused, or taken with the reading that it gives
 abbrev pub step_view : ℕ → Progress → Result (Option Reading) Refusal → Blocks → Stepped

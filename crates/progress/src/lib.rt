@@ -13,6 +13,7 @@ mod states; // whether a record is open
 
 use line_form::Site;
 pub use record_ranges::{once_taken, record_fits};
+use rounding::Energy;
 pub use states::is_open;
 
 // A record takes lines from its opening until a refusal by 2 to 18 or a close that reports.
@@ -32,7 +33,7 @@ pub struct Progress {
     pub last: u64,
     pub site: Site,
     pub readings: u64,
-    pub last_index: u64,
+    pub last_index: Energy,
     pub lasts: LastDates,
     pub tallies: Tallies,
 }
@@ -48,8 +49,9 @@ pub struct LastDates {
     pub r: u64,
 }
 
-// An array for each kind of number, of fixed size since there is no heap, and not a struct for each year: 1 goes over one kind at a time, and D has two years more.
-// By year: P dates, breaks (0 no, 1 yes: any number may stand there, as above) and rates (0 for none) from the oldest history year, D dates from the first axis year.
+// An array for each kind of number, of fixed size since there is no heap, and not a struct for each year: 1 goes over one kind at a time, and D has
+// two years more. By year: P dates, breaks (0 no, 1 yes: any number may stand there, as above) and rates (0 for none) from the oldest history year,
+// D dates from the first axis year.
 #[derive(Clone, Copy, Default)]
 pub struct Tallies {
     pub profile_dates: [u64; 10],

@@ -28,7 +28,7 @@ pub fn record_fits(count: u64, progress: &Progress) -> bool
         && progress.last <= END_TAG
         && site_fits(taken, progress.site)
         && progress.readings <= 600
-        && progress.last_index <= 1_000_000_000_000
+        && progress.last_index.0 <= 1_000_000_000_000
         && last_dates_fit(al, filiere, progress.lasts)
         && tallies_fit(al, filiere, &progress.tallies)
 }

@@ -5,6 +5,7 @@ ghost use Rattle.line_form.specs.Views.{meter_view, site_view};
 ghost use Rattle.progress.specs.SiteRanges.{site_number_fits, site_accepted};
 
 use line_form::{Meter, Site, is_too_soon};
+use rounding::Watts;
 
 // Whether a number of S is from `least` to `most`; it may also be 0 until S is taken.
 #[tactic(auto, unfolding(crate::specs::SiteRanges::site_number_fits, meaning::specs::Record::is_within))]
@@ -12,6 +13,13 @@ fn site_number_fits(taken: bool, least: u64, most: u64, n: u64) -> bool
     ensures { result ≡ site_number_fits taken least most n }
 {
     (!taken && n == 0) || (least..=most).contains(&n)
+}
+
+// Whether PS is from 1 to 100,000,000 W, with 0 as above.
+fn ps_fits(taken: bool, ps: Watts) -> bool
+    ensures { result ≡ site_number_fits taken 1 100_000_000 ps.0 }
+{
+    site_number_fits(taken, 1, 100_000_000, ps.0)
 }
 
 // Whether there is a meter once S is taken, and none before.
@@ -28,7 +36,7 @@ pub(crate) fn site_fits(taken: bool, site: Site) -> bool
 {
     site_number_fits(taken, 2021, 2026, site.al)
         && site_number_fits(taken, 1, 11, site.filiere)
-        && site_number_fits(taken, 1, 100_000_000, site.ps)
+        && ps_fits(taken, site.ps)
         && meter_fits(taken, site.meter)
         && !is_too_soon(site.al, site.filiere)
 }

@@ -14,6 +14,7 @@ use Rattle.meaning.specs.Filing as meant
 use Rattle.meaning.specs.Filing.{real, corrected, estimated, no_kind, reading}
 use Rattle.meaning.specs.Line.{kind_of_letter, is_kind}
 use Rattle.meaning.specs.Blocks.{letter_of_kind}
+use Rattle.rounding.specs.Units.{in_wh}
 use Rattle.readings.specs.declared.Kind.{Kind}
 use Rattle.readings.specs.declared.Kind.TheVariants.{R, C, E}
 use Rattle.readings.specs.declared.Reading.{Reading}
@@ -63,9 +64,9 @@ pub columns_seen : (rs : List Reading) (n : ℕ)
 unfolding positions_of counts_of letters_of readings_view
 columns_seen rs n = tab_same n 0 _ _ (λ i l. at i)
   where
-    at : (i : ℕ) → reading (get_or (map (λ (x : Reading). x.position) rs) i 0) (get_or (map (λ (x : Reading). x.count) rs) i 0) (kind_of_letter (get_or (map letter rs) i 69)) ≡ get_or (map reading_view rs) i (reading_view fresh)
+    at : (i : ℕ) → reading (get_or (map (λ (x : Reading). x.position) rs) i 0) (get_or (map (λ (x : Reading). x.count.0) rs) i 0) (kind_of_letter (get_or (map letter rs) i 69)) ≡ get_or (map reading_view rs) i (reading_view fresh)
     at i =
-        rw (get_or-map (λ (x : Reading). x.position) rs i fresh, get_or-map (λ (x : Reading). x.count) rs i fresh, get_or-map letter rs i fresh, get_or-map reading_view rs i fresh, letter_back (get_or rs i fresh).kind) refl
+        rw (get_or-map (λ (x : Reading). x.position) rs i fresh, get_or-map (λ (x : Reading). x.count.0) rs i fresh, get_or-map letter rs i fresh, get_or-map reading_view rs i fresh, letter_back (get_or rs i fresh).kind) refl
 
 -- ---- kinds
 pub kind_shown : (k : meant.Kind) → T (is_kind k) → kind_view (kind_repr k) ≡ k
@@ -78,7 +79,7 @@ kind_shown no_kind t = absurd t
 pub same_reading : (r q : Reading) → reading_view r ≡ reading_view q → r ≡ q
 same_reading r q e = λ i. record {
   position = ap (λ (x : meant.Reading). x.position) e i;
-  count = ap (λ (x : meant.Reading). x.index) e i;
+  count = in_wh (ap (λ (x : meant.Reading). x.index) e i);
   kind = (sym (back r.kind) ∙ ap (λ (x : meant.Reading). kind_repr x.kind) e ∙ back q.kind) i;
 }
 

@@ -1,4 +1,3 @@
 pub mod LetterKinds
 pub mod Laws
-pub mod ColumnLengths
 pub mod Columned

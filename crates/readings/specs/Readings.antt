@@ -5,6 +5,7 @@ use Rattle.meaning.specs.Filing as meant
 use Rattle.meaning.specs.Filing.{real, corrected, estimated, no_kind, reading}
 use Rattle.meaning.specs.Line.{kind_of_letter}
 use Rattle.meaning.specs.Blocks.{readings_size, letter_of_kind}
+use Rattle.rounding.specs.Units.{in_wh}
 use Rattle.readings.specs.declared.Kind.{Kind}
 use Rattle.readings.specs.declared.Kind.TheVariants.{R, C, E}
 use Rattle.readings.specs.declared.UnknownKind.{UnknownKind}
@@ -18,7 +19,7 @@ kind_view C = corrected
 kind_view E = estimated
 
 abbrev pub reading_view : Reading → meant.Reading
-reading_view r = reading r.position r.count (kind_view r.kind)
+reading_view r = reading r.position r.count.0 (kind_view r.kind)
 
 -- the kind of a line's kind field, as the code has it; no line is taken whose kind is none of the three
 abbrev pub kind_repr : meant.Kind → Kind
@@ -33,7 +34,7 @@ Reads letter r = MatchResult r (λ kind. kind_view kind ≡ kind_of_letter lette
 
 -- at position 0, count 0, kind E
 abbrev pub fresh : Reading
-fresh = record { position = 0; count = 0; kind = E }
+fresh = record { position = 0; count = in_wh 0; kind = E }
 
 -- the list as the definitions have it
 unfoldable pub readings_view : List Reading → List meant.Reading
@@ -51,7 +52,7 @@ unfoldable pub positions_of : List Reading → List ℕ
 positions_of rs = map (λ r. r.position) rs
 
 unfoldable pub counts_of : List Reading → List ℕ
-counts_of rs = map (λ r. r.count) rs
+counts_of rs = map (λ r. r.count.0) rs
 
 unfoldable pub letters_of : List Reading → List ℕ
 letters_of rs = map letter rs

@@ -1,4 +1,4 @@
-// A reading: its position on the axis, its count in Wh and its kind; and the lent list of readings.
+// A reading: its position on the axis, its count and its kind; and the lent list of readings.
 #![tactic(auto)]
 
 mod reading_list; // the functions that touch the lent list: one reading stored, all made fresh, all copied into columns
@@ -9,6 +9,7 @@ ghost use Rattle.meaning.specs.Blocks.{letter_of_kind};
 ghost use Rattle.readings.specs.Readings.{kind_view, Reads, fresh_readings};
 
 pub use reading_list::{columns_of, put, set_fresh};
+use rounding::Energy;
 
 // R real, C corrected, E estimated.
 #[derive(Clone, Copy, Debug, PartialEq, Eq)]
@@ -54,19 +55,20 @@ impl From<Kind> for u8 {
 #[derive(Clone, Copy)]
 pub struct Reading {
     pub position: u32,
-    pub count: u64,
+    pub count: Energy,
     pub kind: Kind,
 }
 
 // A reading before any is stored at its place.
 pub(crate) const FRESH: Reading = Reading {
     position: 0,
-    count: 0,
+    count: Energy(0),
     kind: Kind::E,
 };
 
-// The fields of 600 readings, a column for each, arrays of fixed size since there is no heap. Document 01 lends readings as a slice of structs, which few functions touch, and has the core run over plain
-// columns. Kinds are letters there: what runs over columns promises its answer for any letter, and a column of kinds would ask more of its callers.
+// The fields of 600 readings, a column for each, arrays of fixed size since there is no heap. Document 01 lends readings as a slice of structs,
+// which few functions touch, and has the core run over plain columns. Kinds are letters there: what runs over columns promises its answer for any
+// letter, and a column of kinds would ask more of its callers.
 #[derive(Clone, Copy)]
 pub struct Columns {
     pub positions: [u32; 600],

@@ -37,7 +37,7 @@ pub fn columns_of(readings: &[Reading]) -> Columns
 {
     Columns {
         positions: array::from_fn(|i| reading_at(readings, i).position),
-        indexes: array::from_fn(|i| reading_at(readings, i).count),
+        indexes: array::from_fn(|i| reading_at(readings, i).count.0),
         kinds: array::from_fn(|i| u8::from(reading_at(readings, i).kind)),
     }
 }

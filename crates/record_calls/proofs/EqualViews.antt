@@ -1,6 +1,7 @@
 -- Equal views are equal records: what the promises say of views they say of records.
 use mathlib.Core.Path.{◌≡◌, refl, ap, sym, ◌∙◌}
 use Rattle.std.specs.Prelude.{Option}
+use Rattle.rounding.specs.Units.{in_w, in_wh}
 use Rattle.meaning.specs.Record as meant
 use Rattle.meaning.specs.Record.{Rec}
 use Rattle.line_form.specs.Views.{meter_view, meter_repr}
@@ -40,10 +41,10 @@ same_record r q e = λ i. record {
       al = ap (λ (s : Rec). s.site.al) e i;
       filiere = ap (λ (s : Rec). s.site.filiere) e i;
       meter = same_meter r.progress.site.meter q.progress.site.meter (ap (λ (s : Rec). s.site.meter) e) i;
-      ps = ap (λ (s : Rec). s.site.ps) e i;
+      ps = ap (λ (s : Rec). in_w s.site.ps) e i;
     };
     readings = ap (λ (s : Rec). s.readings) e i;
-    last_index = ap (λ (s : Rec). s.last_index) e i;
+    last_index = ap (λ (s : Rec). in_wh s.last_index) e i;
     lasts = record {
       c = ap (λ (s : Rec). s.lasts.c) e i;
       x = ap (λ (s : Rec). s.lasts.x) e i;

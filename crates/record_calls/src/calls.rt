@@ -8,15 +8,15 @@ ghost use Rattle.record_calls.specs.Views.{view, call_view, close_view};
 
 use crate::{CallResult, CloseResult, Record};
 use answers::{Answer, answer_to};
-use close::{LentReadings, ReadBlocks, close_blocks};
+use close::{ReadBlocks, close_blocks};
 use open_and_line::{apply_line, open_blocks};
 use progress::State;
-use readings::{Reading, columns_of, set_fresh};
+use readings::Reading;
 
 impl Record {
     // Opens the record. Always allowed where the blocks have their sizes, whatever record and blocks hold.
     pub fn open(
-        self,
+        mut self,
         near: &mut [u32],
         far: &mut [u32],
         slots: &mut [u16],
@@ -26,11 +26,11 @@ impl Record {
     ) -> CallResult
         ensures { call_view result (lent_blocks near.new far.new slots.new daily.new (readings_view readings.new) curve.new) ≡ opening_of (view self) (lent_blocks near.old far.old slots.old daily.old (readings_view readings.old) curve.old) }
     {
-        match open_blocks(near, far, slots, daily, readings.len(), curve) {
+        match open_blocks(near, far, slots, daily, readings, curve) {
             Ok(()) => {
-                set_fresh(readings);
+                self = Record::empty(State::Open);
                 CallResult {
-                    record: Record::empty(State::Open),
+                    record: self,
                     answer: Answer::Accepted,
                 }
             }
@@ -63,10 +63,9 @@ impl Record {
             far,
             slots,
             daily,
-            readings.len(),
-            curve.len(),
+            readings,
+            curve,
         );
-        outcome.store(readings);
         self.state = outcome.state;
         self.count = outcome.count;
         CallResult {
@@ -97,10 +96,7 @@ impl Record {
                 slots,
                 daily,
             },
-            LentReadings {
-                columns: columns_of(readings),
-                listed: readings.len(),
-            },
+            readings,
             curve,
         );
         self.state = outcome.state;

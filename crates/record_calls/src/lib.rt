@@ -3,8 +3,7 @@
 // Each call takes the record and hands it back, with the lent blocks as further parameters, as document 01 has them. What it promises is one equation:
 // answer, record and all lent lists are what the definitions of document 01 say of the record and the lists that it got.
 //
-// The work of a call is a function of the record's parts, in a crate below: methods stand in the crate of their type alone. The lent list of readings
-// is touched apart from it: copied before a close, made fresh after an opening, one reading stored after a line.
+// The work of a call is a function of the record's parts and the lent blocks, in a crate below: methods stand in the crate of their type alone.
 #![tactic(auto)]
 
 mod calls; // opening, line and close

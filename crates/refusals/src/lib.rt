@@ -2,7 +2,9 @@
 #![tactic(auto)]
 
 ghost use Rattle.std.specs.Prelude.{◌≡◌};
-ghost use Rattle.refusals.specs.Refusals.{refusal_number, refused_if};
+ghost use Rattle.refusals.specs.Refusals.{refusal_number, of_exceeds, refused_if};
+
+use rounding::Exceeds;
 
 // Why a call is refused, in order of checking but for NotOpen, which comes right after Unfit.
 #[derive(Clone, Copy, Debug, PartialEq, Eq)]
@@ -33,6 +35,15 @@ impl From<Refusal> for u64 {
 
     fn from(refusal: Refusal) -> u64 {
         refusal as u64
+    }
+}
+
+// 18 of a point is that of the close.
+impl From<Exceeds> for Refusal {
+    ghost from_gives = { λ exceeds refusal. refusal ≡ of_exceeds exceeds };
+
+    fn from(_: Exceeds) -> Refusal {
+        Refusal::TooHigh
     }
 }
 

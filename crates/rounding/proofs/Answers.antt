@@ -1,57 +1,38 @@
--- What the answer of a step says, in plain words.
+-- What an answer with 18 says, in plain words.
 use mathlib.Core.Bool.{Bool, true, false}
-use mathlib.Core.Path.{◌≡◌, refl, ap}
+use mathlib.Core.Path.{◌≡◌, refl}
 use Rattle.std.specs.Prelude.{Result, Ok, Err}
 use Prim.Native.Nat.{ℕ, ◌≤◌, ◌<◌}
-use native.Mathlib.Omega.{arith}
-use lib.Dec.{ltb}
-use borrow.Author.Tests.{lt-ltb, le-ltb, ltb-true, ltb-false}
+use borrow.Author.Tests.{lt-ltb, le-ltb}
 use Rattle.rounding.specs.Points.{exceeds, most_point}
-use Rattle.rounding.specs.Answers.{in_mw, point_of, point_where, point_answer_by, milliwatts, refusal}
+use Rattle.rounding.specs.Units.{in_mw}
+use Rattle.rounding.specs.Answers.{limit_view, limited, limited_point}
 use Rattle.rounding.specs.declared.Power.{Power}
 use Rattle.rounding.specs.declared.Exceeds.{Exceeds}
 
--- up to the limit, itself included, a number is a point
-pub point_is : (n : ℕ) → n ≤ most_point → point_of n ≡ Ok (in_mw n)
-unfolding point_of point_where exceeds
-point_is n h = simp (le-ltb most_point n h)
+-- ---- no two answers say the same, and what each says of the test
+pub limit_same : {A : Type 0} (a b : Result A Exceeds) → limit_view a ≡ limit_view b → a ≡ b
+unfolding limit_view
+limit_same (Ok x) (Ok y) e = cc
+limit_same (Ok x) (Err f) e = cc
+limit_same (Err d) (Ok y) e = cc
+limit_same (Err d) (Err f) e = refl
 
--- above it, refusal 18
-pub point_exceeds : (n : ℕ) → most_point < n → point_of n ≡ Err (record {})
-unfolding point_of point_where exceeds
-point_exceeds n h = simp (lt-ltb most_point n h)
+-- the limit kept: the value itself
+pub limit_ok : {A : Type 0} (r : Result A Exceeds) (b : Bool) (a : A) → limit_view r ≡ limited b a → b ≡ false → r ≡ Ok a
+unfolding limit_view limited
+limit_ok r b a e f = limit_same r (Ok a) (rw f at e)
 
-pub said_point : (n : ℕ) → n ≤ most_point → point_answer_by (point_of n) ≡ milliwatts n
-unfolding point_answer_by
-said_point n h = rw (point_is n h)
+-- exceeded: 18
+pub limit_err : {A : Type 0} (r : Result A Exceeds) (b : Bool) (a : A) → limit_view r ≡ limited b a → b ≡ true → r ≡ Err (record {})
+unfolding limit_view limited
+limit_err r b a e t = limit_same r (Err (record {})) (rw t at e)
 
-pub said_exceeds : (n : ℕ) → most_point < n → point_answer_by (point_of n) ≡ refusal 18
-unfolding point_answer_by
-said_exceeds n h = rw (point_exceeds n h)
+-- ---- a power: up to the limit, itself included, a point; above it 18
+pub point_within : (p : Power) → p.0 ≤ most_point → limit_view (Ok p) ≡ limited_point p.0
+unfolding limit_view limited_point limited exceeds
+point_within p h = simp (le-ltb most_point p.0 h)
 
--- and back: what an answer says of the number
-pub is_point_lem : (n : ℕ) (p : Power) → point_of n ≡ Ok p → (p.0 ≡ n) × (p.0 ≤ most_point)
-unfolding point_of point_where exceeds
-is_point_lem n p e = by (ltb most_point n) refl e
-  where
-    by : (b : Bool) → ltb most_point n ≡ b → point_where b n ≡ Ok p → (p.0 ≡ n) × (p.0 ≤ most_point)
-    by true t q = let z : ◌≡◌ {A = ℕ} 0 1 = cc in omega arith
-    by false t q =
-        let v : p.0 ≡ n = ap (λ (x : Power). x.0) (cc) in
-        omega (arith, ltb-false most_point n t)
-
-pub is_over : (n : ℕ) → point_of n ≡ Err (record {}) → most_point < n
-unfolding point_of point_where exceeds
-is_over n e = by (ltb most_point n) refl e
-  where
-    by : (b : Bool) → ltb most_point n ≡ b → point_where b n ≡ Err (record {}) → most_point < n
-    by true t q = ltb-true most_point n t
-    by false t q = let z : ◌≡◌ {A = ℕ} 0 1 = cc in omega arith
-
--- no two answers say the same
-pub said_same : (a b : Result Power Exceeds) → point_answer_by a ≡ point_answer_by b → a ≡ b
-unfolding point_answer_by
-said_same (Ok p) (Ok q) e = let v : p.0 ≡ q.0 = cc in λ i. Ok (in_mw (v i))
-said_same (Ok p) (Err f) e = cc
-said_same (Err f) (Ok q) e = cc
-said_same (Err f) (Err g) e = refl
+pub point_exceeds : (p : Power) → most_point < p.0 → limit_view {A = Power} (Err (record {})) ≡ limited_point p.0
+unfolding limit_view limited_point limited exceeds
+point_exceeds p h = simp (lt-ltb most_point p.0 h)

@@ -1,4 +1,3 @@
 pub mod Laws
 pub mod Formulas
 pub mod Answers
-pub mod Examples

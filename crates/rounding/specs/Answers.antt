@@ -1,27 +1,25 @@
--- The answer of a step that makes a point, case by case (document 01, Stops that come from the state: 18).
+-- What is within the limit of a point, or 18 (document 01, Stops that come from the state).
 use Rattle.std.specs.Prelude.{Bool, true, false, ℕ, Result, Ok, Err}
 use Rattle.rounding.specs.Points.{exceeds}
+use Rattle.rounding.specs.Units.{in_mw}
 use Rattle.rounding.specs.declared.Power.{Power}
 use Rattle.rounding.specs.declared.Exceeds.{Exceeds}
 
--- a number of mW as a power
-abbrev pub in_mw : ℕ → Power
-in_mw n = record { 0 = n }
+-- in document 01's words: a value within the limit, or the number of a refusal
+pub data Limited (A : Type 0) : Type 0 where
+  within : A → Limited A
+  refusal : ℕ → Limited A
 
-unfoldable pub point_where : Bool → ℕ → Result Power Exceeds
-point_where true n = Err (record {})
-point_where false n = Ok (in_mw n)
+-- what each case of the code's answer says
+unfoldable pub limit_view : {A : Type 0} → Result A Exceeds → Limited A
+limit_view (Ok a) = within a
+limit_view (Err e) = refusal 18
 
--- a rounded number of mW as a point, or that it exceeds the limit
-unfoldable pub point_of : ℕ → Result Power Exceeds
-point_of n = point_where (exceeds n) n
+-- 18 where the limit is exceeded, else the value
+unfoldable pub limited : {A : Type 0} → Bool → A → Limited A
+limited true a = refusal 18
+limited false a = within a
 
--- in document 01's words: a number of mW, or the number of a refusal
-pub data PointAnswer : Type 0 where
-  milliwatts : ℕ → PointAnswer
-  refusal : ℕ → PointAnswer
-
--- what each case of the answer says
-unfoldable pub point_answer_by : Result Power Exceeds → PointAnswer
-point_answer_by (Ok p) = milliwatts p.0
-point_answer_by (Err e) = refusal 18
+-- a number of mW as a point, or 18
+unfoldable pub limited_point : ℕ → Limited Power
+limited_point n = limited (exceeds n) (in_mw n)

@@ -1,4 +1,4 @@
 pub mod Rounding
 pub mod Points
+pub mod Units
 pub mod Answers
-pub mod Examples

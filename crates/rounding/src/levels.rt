@@ -1,10 +1,10 @@
 // From the points to the NCC: the rate of a year, and the level of the mean point.
 ghost use Rattle.std.specs.Prelude.{◌≡◌, ◌≤◌, ◌<◌};
 ghost use Rattle.rounding.specs.Points.{rounded, rated, level};
-ghost use Rattle.rounding.specs.Answers.{in_mw};
+ghost use Rattle.rounding.specs.Units.{in_mw, in_w};
 
-use crate::Power;
 use crate::nearest::half_up;
+use crate::{Power, Watts};
 
 // A point after its year's rate, which is in thousandths.
 #[tactic(auto, unfolding(crate::specs::Points::rounded, crate::specs::Points::rated))]
@@ -17,9 +17,9 @@ pub fn rated(p: Power, rate: u64) -> Power
 
 // The NCC in W: C, in hundredths, times the mean of the n present points, whose sum is at most 4,400 times the largest point after a rate of 10.
 #[tactic(auto, unfolding(crate::specs::Points::rounded, crate::specs::Points::level))]
-pub fn level(c: u64, points: Power, n: u64) -> u64
+pub fn level(c: u64, points: Power, n: u64) -> Watts
     requires { (c ≤ 100) × (points.0 ≤ 88_000_000_000_000_000) × (0 < n) × (n ≤ 4400) }
-    ensures { result ≡ rounded (level c points.0 n) }
+    ensures { result ≡ in_w (rounded (level c points.0 n)) }
 {
-    half_up(c * points.0, 100_000 * n)
+    Watts(half_up(c * points.0, 100_000 * n))
 }

@@ -21,7 +21,7 @@ rows_text ys = flat (map row_text ys)
 unfoldable pub sheet_text : Answer → List YearRow → List ℕ
 sheet_text Accepted ys = refusal_line 0 0
 sheet_text (Refused n c) ys = refusal_line n c
-sheet_text (Reported al f n k) ys = level_text al f n k ++ rows_text ys
+sheet_text (Reported al f w k) ys = level_text al f w.0 k ++ rows_text ys
 
 -- the first bytes are the text
 pub record Holds (r : Printed) (s : List ℕ) : Type 0 where

@@ -59,7 +59,7 @@ impl Printed {
                 level,
                 points,
             } => {
-                self.put_line(b'N', &[al, filiere, level, points]);
+                self.put_line(b'N', &[al, filiere, level.0, points]);
                 self.put_rows(years);
             }
         }

@@ -5,6 +5,21 @@ use crate::{Base, Forge};
 use answers::Answer;
 use line_form::END_TAG;
 
+pub(crate) fn open_answer(base: Base, forge: Forge) -> Answer {
+    let mut held = Held::of(base, forge);
+    let mut curve = [0u64; 4401];
+    let lengths = lengths_of(forge);
+    let opened = record_of(base, forge, 1).open(
+        &mut held.near[..lengths.near],
+        &mut held.far[..lengths.far],
+        &mut held.slots[..lengths.slots],
+        &mut held.daily[..lengths.daily],
+        &mut held.readings[..lengths.readings],
+        &mut curve[..lengths.curve],
+    );
+    opened.answer
+}
+
 pub(crate) fn line_answer(base: Base, forge: Forge, line: &[u8]) -> Answer {
     let mut held = Held::of(base, forge);
     let curve = [0u64; 4401];
@@ -15,7 +30,7 @@ pub(crate) fn line_answer(base: Base, forge: Forge, line: &[u8]) -> Answer {
         &mut held.far[..lengths.far],
         &mut held.slots[..lengths.slots],
         &mut held.daily[..lengths.daily],
-        &mut held.readings,
+        &mut held.readings[..lengths.readings],
         &curve[..lengths.curve],
     );
     taken.answer
@@ -30,23 +45,8 @@ pub(crate) fn close_answer(base: Base, forge: Forge) -> Answer {
         &held.far[..lengths.far],
         &held.slots[..lengths.slots],
         &held.daily[..lengths.daily],
-        &held.readings,
+        &held.readings[..lengths.readings],
         &mut curve[..lengths.curve],
     );
     closed.answer
-}
-
-pub(crate) fn open_answer(forge: Forge) -> Answer {
-    let mut held = Held::of(Base::Wind, forge);
-    let mut curve = [0u64; 4401];
-    let lengths = lengths_of(forge);
-    let opened = record_of(Base::Wind, forge, END_TAG).open(
-        &mut held.near[..lengths.near],
-        &mut held.far[..lengths.far],
-        &mut held.slots[..lengths.slots],
-        &mut held.daily[..lengths.daily],
-        &mut held.readings,
-        &mut curve[..lengths.curve],
-    );
-    opened.answer
 }

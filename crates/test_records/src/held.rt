@@ -6,16 +6,17 @@ use crate::{Base, Forge};
 use answers::Lengths;
 use blocks::NO_POINT;
 use readings::{Kind, Reading};
+use rounding::Energy;
 use std::array::from_fn;
 
-// The blocks, each with room for one place more than its size, and the readings. Arrays, since memory is fixed and there is no heap.
+// The blocks, each with room for one place more than its size. Arrays, since memory is fixed and there is no heap.
 #[derive(Clone, Copy)]
 pub(crate) struct Held {
     pub near: [u32; 15_201],
     pub far: [u32; 15_201],
     pub slots: [u16; 30_401],
     pub daily: [u32; 4393],
-    pub readings: [Reading; 600],
+    pub readings: [Reading; 601],
 }
 
 // Forges a place, where the block has it.
@@ -29,7 +30,7 @@ pub(crate) fn set_at<T: Copy>(block: &mut [T], i: usize, value: T) {
 fn reading(position: u32) -> Reading {
     Reading {
         position,
-        count: 0,
+        count: Energy(0),
         kind: Kind::E,
     }
 }
@@ -68,6 +69,7 @@ impl Held {
             Forge::Sum(i, value) => set_at(&mut held.daily, i, value),
             Forge::Position(i, position) if i < 600 => held.readings[i].position = position,
             Forge::Index(i, count) if i < 600 => held.readings[i].count = count,
+            Forge::LastOf600(position) => held.readings[599].position = position,
             Forge::Uncounted(position) => held.readings.fill(reading(position)),
             _ => {}
         }
@@ -75,41 +77,48 @@ impl Held {
     }
 }
 
-// How many places of each block are lent, and all readings.
+// The sizes of the blocks.
+const OWN: Lengths = Lengths {
+    near: 15_200,
+    far: 15_200,
+    slots: 30_400,
+    daily: 4_392,
+    readings: 600,
+    curve: 4_400,
+};
+
+// How many places of each block are lent.
 pub(crate) fn lengths_of(forge: Forge) -> Lengths
     ensures points { (result.near ≤ 15_201) × (result.far ≤ 15_201) }
     ensures profiles { (result.slots ≤ 30_401) × (result.daily ≤ 4393) }
+    ensures readings { result.readings ≤ 601 }
     ensures curve { result.curve ≤ 4401 }
 {
-    let own = Lengths {
-        near: 15_200,
-        far: 15_200,
-        slots: 30_400,
-        daily: 4_392,
-        readings: 600,
-        curve: 4_400,
-    };
     match forge {
         Forge::NearSize(n) => Lengths {
             near: n.min(15_201),
-            ..own
+            ..OWN
         },
         Forge::FarSize(n) => Lengths {
             far: n.min(15_201),
-            ..own
+            ..OWN
         },
         Forge::SlotsSize(n) => Lengths {
             slots: n.min(30_401),
-            ..own
+            ..OWN
         },
         Forge::DailySize(n) => Lengths {
             daily: n.min(4_393),
-            ..own
+            ..OWN
+        },
+        Forge::ReadingsSize(n) => Lengths {
+            readings: n.min(601),
+            ..OWN
         },
         Forge::CurveSize(n) => Lengths {
             curve: n.min(4_401),
-            ..own
+            ..OWN
         },
-        _ => own,
+        _ => OWN,
     }
 }

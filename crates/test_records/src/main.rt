@@ -1,10 +1,8 @@
-// Forges a record, or what a block holds, at each border of refusal 1, and writes what a line and the close answer to it.
+// Forges a record, or what a block holds, at each border of refusal 1, and writes what opening, a line and the close answer to it.
 //
 // Each case changes one thing of a record that a line is accepted on and whose close reports: onshore wind, AL 2025, history 2016 to 2020, axis 2015
 // to 2021, with points on every day of 2020 but 29 February. The line is E after S alone; before S it is S. The answers in the file stdout beside
 // this folder are document 01's: 1 where it says so, else the first stop that comes after 1, or none.
-//
-// The list of readings is an array of 600 here: it cannot have another size.
 #![tactic(auto)]
 
 mod records; // the record of a case
@@ -15,12 +13,14 @@ mod cases; // the cases
 
 use crate::cases::{
     AXIS_DATES, BREAKS_AND_RATES, DATES_BY_YEAR, FIELDS_BEFORE_S, PLAIN_FIELDS, POINTS_HELD,
-    PROFILES_HELD, READINGS_HELD, SITE_FIELDS, SIZES, WINTER_DATES, YEARS,
+    PROFILES_HELD, READINGS_HELD, RIVER_DATES, SITE_FIELDS, SIZES, WINTER_DATES, YEARS,
 };
-use crate::written::{cases, last_dates, opening, sizes};
+use crate::written::{cases, last_dates};
+use rounding::{Energy, Watts};
 use std::io;
 
-// The record before it is forged: wind, run of river (history 2011 to 2020), or a record without S.
+// The record before it is forged: wind, run of river (history 2011 to 2020), or a record without S, with a meter or with wind's AL, filière and PS all
+// the same.
 #[derive(Clone, Copy)]
 pub(crate) enum Base {
     Wind,
@@ -29,7 +29,9 @@ pub(crate) enum Base {
     NoMeter,
     Refused,
     BeforeS,
-    MeterBeforeS,
+    CurveBeforeS,
+    IndexBeforeS,
+    WindBeforeS,
 }
 
 // What is forged, and to which value; by year or by place, with the number of the year or the place. Nothing is a case of its own and no Option, which
@@ -42,9 +44,9 @@ pub(crate) enum Forge {
     Al(u64),
     Filiere(u64),
     Both(u64, u64),
-    Ps(u64),
+    Ps(Watts),
     Readings(u64),
-    LastIndex(u64),
+    LastIndex(Energy),
     LastC(u64),
     LastX(u64),
     LastD(u64),
@@ -60,12 +62,14 @@ pub(crate) enum Forge {
     Slot(usize, u16),
     Sum(usize, u32),
     Position(usize, u32),
-    Index(usize, u64),
+    Index(usize, Energy),
+    LastOf600(u32),
     Uncounted(u32),
     NearSize(usize),
     FarSize(usize),
     SlotsSize(usize),
     DailySize(usize),
+    ReadingsSize(usize),
     CurveSize(usize),
 }
 
@@ -79,15 +83,11 @@ fn main(rt: HostRuntime) -> io::Result<()> {
     last_dates(&rt, "D", Forge::LastD, &AXIS_DATES)?;
     last_dates(&rt, "B", Forge::LastB, &YEARS)?;
     last_dates(&rt, "R", Forge::LastR, &YEARS)?;
+    cases(&rt, &RIVER_DATES)?;
     cases(&rt, &DATES_BY_YEAR)?;
     cases(&rt, &BREAKS_AND_RATES)?;
     cases(&rt, &POINTS_HELD)?;
     cases(&rt, &PROFILES_HELD)?;
     cases(&rt, &READINGS_HELD)?;
-    sizes(&rt, &SIZES)?;
-    opening(
-        &rt,
-        "opening on the record out of range",
-        Forge::Count(10_000),
-    )
+    cases(&rt, &SIZES)
 }

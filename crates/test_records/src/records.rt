@@ -4,17 +4,21 @@ use crate::{Base, Forge};
 use line_form::{Meter, Site};
 use progress::{Progress, State, Tallies};
 use record_calls::Record;
+use rounding::Watts;
 
 // What S gives of wind.
 const WIND: Site = Site {
     al: 2025,
     filiere: 2,
     meter: Some(Meter::Curve),
-    ps: 5_000_000,
+    ps: Watts(5_000_000),
 };
 
 pub(crate) fn is_before_s(base: Base) -> bool {
-    matches!(base, Base::BeforeS | Base::MeterBeforeS)
+    matches!(
+        base,
+        Base::BeforeS | Base::CurveBeforeS | Base::IndexBeforeS | Base::WindBeforeS
+    )
 }
 
 // The record before it is forged, after S with the last tag that its call needs: a number, as the record has it.
@@ -32,7 +36,12 @@ fn base_record(base: Base, last: u64) -> Record {
         Base::IndexMeter => record.progress.site.meter = Some(Meter::Index),
         Base::NoMeter => record.progress.site.meter = None,
         Base::Refused => record.state = State::Refused,
-        Base::MeterBeforeS => record.progress.site.meter = Some(Meter::Curve),
+        Base::CurveBeforeS => record.progress.site.meter = Some(Meter::Curve),
+        Base::IndexBeforeS => record.progress.site.meter = Some(Meter::Index),
+        Base::WindBeforeS => record.progress.site = Site {
+            meter: None,
+            ..WIND
+        },
     }
     record
 }
@@ -50,12 +59,13 @@ fn forge_site(site: &mut Site, forge: Forge) {
     }
 }
 
-// Two readings are counted where one of them is forged.
+// Two readings are counted where one is forged, and all 600 where the last is.
 fn forge_progress(progress: &mut Progress, forge: Forge) {
     match forge {
         Forge::Last(tag) => progress.last = tag,
         Forge::Readings(n) => progress.readings = n,
         Forge::Position(_, _) | Forge::Index(_, _) => progress.readings = 2,
+        Forge::LastOf600(_) => progress.readings = 600,
         Forge::LastIndex(n) => progress.last_index = n,
         Forge::LastC(date) => progress.lasts.c = date,
         Forge::LastX(date) => progress.lasts.x = date,

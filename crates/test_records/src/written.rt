@@ -24,14 +24,15 @@ fn put_line_answer(rt: &impl Print, base: Base, forge: Forge) -> io::Result<()> 
     put_answer(rt, line_answer(base, forge, b"E\t1"))
 }
 
-// The line's answer and the close's, which end the case's row.
+// What opening, line and close answer, which ends the case's row.
 fn put_answers(rt: &impl Print, base: Base, forge: Forge) -> io::Result<()> {
+    put_answer(rt, open_answer(base, forge))?;
     put_line_answer(rt, base, forge)?;
     put_answer(rt, close_answer(base, forge))?;
     println!(rt)
 }
 
-// What is forged, the line's answer and the close's.
+// What is forged, and the three answers.
 pub(crate) fn cases(rt: &impl Print, rows: &[Case]) -> io::Result<()> {
     for (name, base, forge) in rows {
         print!(rt; "{name}")?;
@@ -54,21 +55,4 @@ pub(crate) fn last_dates<F: Fn(u64) -> Forge>(
         put_answers(rt, Base::Wind, last(*date))?;
     }
     Ok(())
-}
-
-// Blocks of other sizes, with the opening's answer before the two.
-pub(crate) fn sizes(rt: &impl Print, rows: &[(&str, Forge)]) -> io::Result<()> {
-    for (name, forge) in rows {
-        print!(rt; "{name}")?;
-        put_answer(rt, open_answer(*forge))?;
-        put_answers(rt, Base::Wind, *forge)?;
-    }
-    Ok(())
-}
-
-// The opening's answer alone.
-pub(crate) fn opening(rt: &impl Print, name: &str, forge: Forge) -> io::Result<()> {
-    print!(rt; "{name}")?;
-    put_answer(rt, open_answer(forge))?;
-    println!(rt)
 }

@@ -1,158 +1,144 @@
--- Laws of fields: of a loop over a line's bytes, by what is true of the bytes from place i on, and the definitions in words.
+-- Laws of fields: of a line split at its first tab, and the definitions in words.
 use mathlib.Core.Path.{◌≡◌, refl, ap, sym, ◌∙◌}
 use mathlib.Core.Logic.{◌↔◌, ◌⊎◌, inl, inr, ⊎_elim}
 use mathlib.Core.Bool.{Bool, true, false, not, ◌&&◌, ◌||◌, cond}
 use mathlib.Core.List.{List, [], ◌∷◌, ◌++◌}
-use Prim.Native.Nat.{ℕ, zero, suc, ◌+◌, ◌-◌, ◌*◌, ◌≤◌, ◌<◌, min}
+use Prim.Native.Nat.{ℕ, zero, suc, ◌+◌, ◌-◌, ◌≤◌, ◌<◌}
 use native.Mathlib.Numerals.{add-one}
 use native.Mathlib.Omega.{arith}
-use lib.Dec.{T, eqb, leb}
-use lib.ListN.{length, take, drop, get_or, drop_of_length-le, length-take, length-drop}
-use lib.Seq.{drop-cons, take-length, take-suc}
-use borrow.Author.Tests.{eq-eqb, ne_eqb, eqb-true, eqb-false, leb-true, leb-false}
-use Rattle.text.specs.Numbers.{is_digit, is_number, value_of, most}
+use lib.Dec.{T, eqb, ltb}
+use lib.ListN.{length, take, drop, get_or, drop_of_length-le, length-drop}
+use lib.Seq.{take-length, take_all, take-suc}
+use borrow.Author.Tests.{ne_eqb, eq-eqb, eqb-true, eqb-false, ltb-false}
 use Rattle.std.specs.Prelude.{Option, Some, None}
+use Rattle.std.specs.List.{fold, position, position_or_len, before_first, after_first}
 use Rattle.std.specs.Cmp.Lexicographic.{pointwise}
-use Rattle.std.proofs.lemmas.List.{get_or-take}
-use Rattle.std.proofs.lemmas.List.Folds.{list_any_at}
-use Rattle.lists.proofs.Chains.{any_listed}
+use Rattle.std.proofs.lemmas.List.{length-append}
 use Rattle.lists.specs.Lists.{any, Each, each_nil, each_cons}
-use Rattle.lists.proofs.Laws.{any_snoc}
 use Rattle.lists.proofs.Reflect.{of_eq, of_and}
-use Rattle.text.specs.Fields.{is_invalid, up_to, past, tab_at, tabs, rest_at, field_at, reads}
-use Rattle.std.specs.Bool.{then_some}
-use Rattle.text.specs.NumberFields.{number_in, number_field_of}
-use Rattle.text.specs.declared.NumberField.{NumberField}
-use Rattle.text.proofs.NumberLaws.{value_snoc, number_snoc, eqb_capped}
+use Rattle.lists.proofs.Tests.{or_false, or_assoc}
+use Rattle.text.specs.Fields.{is_invalid, up_to, past, tabs, rest_at, field_at, reads}
 
--- ---- a loop: the first tab
-pub tab_here : (l : List ℕ) (i : ℕ) → i < length l → get_or l i 0 ≡ 9 → tab_at (drop i l) ≡ 0
-unfolding tab_at
-tab_here l i h e = rw (drop-cons l i 0 h) (simp (eq-eqb _ _ e))
-
-pub tab_on : (l : List ℕ) (i : ℕ) → i < length l → (get_or l i 0 ≡ 9 → ⊥) → tab_at (drop i l) ≡ tab_at (drop (i + 1) l) + 1
-unfolding tab_at
-tab_on l i h e = rw (drop-cons l i 0 h) (simp (ne_eqb _ _ e, add-one))
-
-pub tab_end : (l : List ℕ) (i : ℕ) → length l ≤ i → tab_at (drop i l) ≡ 0
-unfolding tab_at
-tab_end l i h = simp (drop_of_length-le l h)
-
--- ---- the first field and what is past it, by the place of the first tab
-pub up_take : (l : List ℕ) → up_to l ≡ take (tab_at l) l
-unfolding up_to tab_at
-up_take [] = refl
-up_take (x ∷ l) = go (eqb x 9) (up_take l)
+-- ---- a line split at its first tab
+up_first : (l : List ℕ) → up_to l ≡ before_first (λ b. eqb b 9) l
+unfolding up_to
+up_first [] = refl
+up_first (x ∷ l) = go (eqb x 9) (up_first l)
   where
-    go : (b : Bool) → up_to l ≡ take (tab_at l) l → cond b [] (x ∷ up_to l) ≡ take (cond b 0 (suc (tab_at l))) (x ∷ l)
+    go : (b : Bool) → up_to l ≡ before_first (λ y. eqb y 9) l → cond b [] (x ∷ up_to l) ≡ take (cond (not b) (1 + position_or_len (λ y. eqb y 9) l) 0) (x ∷ l)
     go true e = refl
-    go false e = ap (λ (r : List ℕ). x ∷ r) e
+    go false e = let n : 1 + position_or_len (λ y. eqb y 9) l ≡ suc (position_or_len (λ y. eqb y 9) l) = omega arith in rw n (ap (λ (r : List ℕ). x ∷ r) e)
 
-pub past_drop : (l : List ℕ) → past l ≡ drop (tab_at l + 1) l
-unfolding past tab_at
-past_drop [] = refl
-past_drop (x ∷ l) = go (eqb x 9) (past_drop l)
+past_first : (l : List ℕ) → past l ≡ after_first (λ b. eqb b 9) l
+unfolding past
+past_first [] = refl
+past_first (x ∷ l) = go (eqb x 9) (past_first l)
   where
-    go : (b : Bool) → past l ≡ drop (tab_at l + 1) l → cond b l (past l) ≡ drop (cond b 0 (suc (tab_at l)) + 1) (x ∷ l)
+    go : (b : Bool) → past l ≡ after_first (λ y. eqb y 9) l → cond b l (past l) ≡ drop (cond (not b) (1 + position_or_len (λ y. eqb y 9) l) 0 + 1) (x ∷ l)
     go true e = refl
-    go false e = rw add-one (rw add-one at e)
-
--- to drop more than there is drops all
-pub drop_min : (n : ℕ) (l : List ℕ) → drop (min n (length l)) l ≡ drop n l
-drop_min n l = go (leb n (length l)) refl
-  where
-    go : (b : Bool) → leb n (length l) ≡ b → drop (min n (length l)) l ≡ drop n l
-    go true e =
-        let h : n ≤ length l = leb-true n (length l) e in
-        let k : min n (length l) ≡ n = omega arith in
-        rw k
-    go false e =
-        let h : length l < n = leb-false n (length l) e in
-        let k : min n (length l) ≡ length l = omega arith in
-        rw k (drop_of_length-le l {i = length l} (omega arith) ∙ sym (drop_of_length-le l {i = n} (omega arith)))
-
-pub past_min : (l : List ℕ) → drop (min (tab_at l + 1) (length l)) l ≡ past l
-past_min l = drop_min (tab_at l + 1) l ∙ sym (past_drop l)
-
--- with no tab there is nothing past it
-pub past_none : (l : List ℕ) → length l ≤ tab_at l → past l ≡ []
-past_none l h = past_drop l ∙ drop_of_length-le l {i = tab_at l + 1} (omega arith)
+    go false e = let n : 1 + position_or_len (λ y. eqb y 9) l + 1 ≡ suc (position_or_len (λ y. eqb y 9) l + 1) = omega arith in rw n e
 
 -- what `&t[a..]` holds
 pub rest_of_lem : (t : List ℕ) (a : ℕ) → take (length t - a) (drop a t) ≡ drop a t
 rest_of_lem t a = rw (← length-drop a t) (take-length (drop a t))
 
--- ---- the caller's loop: e is where the first tab of t stands, k the place past it
--- what `&t[..e]` holds, and that it is as long as it says
-pub first_of : (t : List ℕ) (e : ℕ) → e ≡ tab_at t → take e t ≡ up_to t
-first_of t e h = rw h (sym (up_take t))
-
--- what `&t[k..]` holds
-pub rest_past : (t : List ℕ) (e k : ℕ) → e ≡ tab_at t → k ≡ min (e + 1) (length t) → take (length t - k) (drop k t) ≡ past t
-rest_past t e k h g = rest_of_lem t k ∙ rw (g, h) (past_min t)
-
--- ---- the loop over a number: what the first i bytes are, with one byte more, and where the field ends
-pub number_on : (s : List ℕ) (i : ℕ) (b c : Bool) (v : ℕ) → i < length s → b ≡ is_number (take i s) → v ≡ min (value_of (take i s)) most
-    → c ≡ (is_digit (get_or s i 0) && (eqb i 0 || (not (eqb v 0) && b))) → c ≡ is_number (take (i + 1) s)
-number_on s i b c v h p q e =
-    let n : length (take i s) ≡ i = simp length-take (omega arith) in
-    e ∙ rw (p, q, eqb_capped most (value_of (take i s)) 0 (omega arith), add-one i, take-suc s i 0 h, number_snoc (take i s) (get_or s i 0), n)
-
--- the same, by whether a digit may follow the first i bytes
-pub number_next : (s : List ℕ) (i : ℕ) (b c o : Bool) (v : ℕ) → i < length s → b ≡ is_number (take i s) → v ≡ min (value_of (take i s)) most
-    → o ≡ (eqb i 0 || (not (eqb v 0) && b)) → c ≡ (is_digit (get_or s i 0) && o) → c ≡ is_number (take (i + 1) s)
-number_next s i b c o v h p q f e = number_on s i b c v h p q (rw f at e)
-
-pub value_on : (s : List ℕ) (i v w : ℕ) → i < length s → v ≡ min (value_of (take i s)) most → w ≡ min (v * 10 + (get_or s i 0 - 48)) most → w ≡ min (value_of (take (i + 1) s)) most
-value_on s i v w h q e = e ∙ rw (add-one i, take-suc s i 0 h, value_snoc (take i s) (get_or s i 0)) (omega arith)
-
-pub valid_on : (s : List ℕ) (i : ℕ) → i < length s → any is_invalid (take i s) ≡ false → is_invalid (get_or s i 0) ≡ false → any is_invalid (take (i + 1) s) ≡ false
-valid_on s i h p e = rw (add-one i, take-suc s i 0 h, any_snoc is_invalid (take i s) (get_or s i 0), p, e)
-
--- a byte before the tab is one of the first field
-pub invalid_here : (s : List ℕ) (i : ℕ) → i < length s → tab_at s ≡ i + tab_at (drop i s) → (get_or s i 0 ≡ 9 → ⊥) → is_invalid (get_or s i 0) ≡ true → None ≡ number_field_of s
-unfolding number_field_of
-invalid_here s i h t n e =
-    let f = take (tab_at s) s in
-    let on : i < tab_at s = omega (arith, tab_on s i h n) in
-    let k : i < length f = simp length-take (omega arith) in
-    let x : is_invalid (get_or f i 0) ≡ true = rw (get_or-take (tab_at s) s i 0 on) e in
-    rw (up_take s, sym (any_listed is_invalid f), list_any_at is_invalid f i 0 k x)
-
-pub numbered : (s : List ℕ) (i n : ℕ) (b : Bool) (v : ℕ) → n ≡ i → i ≡ tab_at s → any is_invalid (take i s) ≡ false → b ≡ is_number (take i s) → v ≡ min (value_of (take i s)) most
-    → ◌≡◌ {A = Option NumberField} (Some (record { length = n; number = then_some b v })) (number_field_of s)
-unfolding number_field_of number_in
-numbered s i n b v h e g p q =
-    let f : take i s ≡ up_to s = first_of s i e in
-    rw (h, p, q, f, e, rw f at g)
-
--- what the proof of the loop needs
-pub ruleset number_steps = (tab_here, tab_on, tab_end, valid_on, number_next, value_on, invalid_here, numbered)
-
--- what the result says of the first field
-pub record FieldRead (n : NumberField) (s : List ℕ) : Type 0 where
-  pub valid : any is_invalid (up_to s) ≡ false
-  pub length_is : n.length ≡ tab_at s
-  pub number_is : n.number ≡ number_in (up_to s)
-
-pub some_read : (s : List ℕ) (n : NumberField) → Some n ≡ number_field_of s → FieldRead n s
-unfolding number_field_of
-some_read s n e = go (any is_invalid (up_to s)) refl e
+-- the place of the first tab, where there is one
+found : (l : List ℕ) (k : ℕ) → Some k ≡ position (λ b. eqb b 9) l → k ≡ position_or_len (λ b. eqb b 9) l
+found l k e = go (ltb (position_or_len (λ b. eqb b 9) l) (length l)) e
   where
-    whole : NumberField
-    whole = record { length = tab_at s; number = number_in (up_to s) }
+    go : (b : Bool) → Some k ≡ cond b (Some (position_or_len (λ y. eqb y 9) l)) None → k ≡ position_or_len (λ y. eqb y 9) l
+    go true q = cc
+    go false q = absurd (cc)
 
-    go : (b : Bool) → any is_invalid (up_to s) ≡ b → ◌≡◌ {A = Option NumberField} (Some n) (cond b None (Some whole)) → FieldRead n s
+missing : (l : List ℕ) → ◌≡◌ {A = Option ℕ} None (position (λ b. eqb b 9) l) → length l ≤ position_or_len (λ b. eqb b 9) l
+missing l e = go (ltb (position_or_len (λ b. eqb b 9) l) (length l)) refl e
+  where
+    go : (b : Bool) → ltb (position_or_len (λ y. eqb y 9) l) (length l) ≡ b → ◌≡◌ {A = Option ℕ} None (cond b (Some (position_or_len (λ y. eqb y 9) l)) None) → length l ≤ position_or_len (λ y. eqb y 9) l
     go true q r = absurd (cc)
-    go false q r = let k : n ≡ whole = cc in rw k (record { valid = q; length_is = refl; number_is = refl })
+    go false q r = ltb-false (position_or_len (λ y. eqb y 9) l) (length l) q
 
-pub none_read : (s : List ℕ) → ◌≡◌ {A = Option NumberField} None (number_field_of s) → any is_invalid (up_to s) ≡ true
-unfolding number_field_of
-none_read s e = go (any is_invalid (up_to s)) refl e
+pub field_found : (l : List ℕ) (k : ℕ) → Some k ≡ position (λ b. eqb b 9) l → take k l ≡ up_to l
+field_found l k e = rw (found l k e) (sym (up_first l))
+
+pub rest_found : (l : List ℕ) (k : ℕ) → Some k ≡ position (λ b. eqb b 9) l → take (length l - (k + 1)) (drop (k + 1) l) ≡ past l
+rest_found l k e = rest_of_lem l (k + 1) ∙ rw (found l k e) (sym (past_first l))
+
+pub field_alone : (l : List ℕ) → ◌≡◌ {A = Option ℕ} None (position (λ b. eqb b 9) l) → l ≡ up_to l
+field_alone l e = sym (up_first l ∙ take_all (position_or_len (λ b. eqb b 9) l) l (missing l e))
+
+pub rest_empty : (l : List ℕ) → ◌≡◌ {A = Option ℕ} None (position (λ b. eqb b 9) l) → take (length l - length l) (drop (length l) l) ≡ past l
+rest_empty l e =
+    let h : length l ≤ position_or_len (λ b. eqb b 9) l = missing l e in
+    rest_of_lem l (length l) ∙ drop_of_length-le l {i = length l} (omega arith) ∙ sym (past_first l ∙ drop_of_length-le l {i = position_or_len (λ b. eqb b 9) l + 1} (omega arith))
+
+-- what the proof of the split needs
+pub ruleset split_parts = (field_found, rest_found, field_alone, rest_empty)
+
+-- ---- tabs counted: those of the first i bytes
+tabs_snoc : (l : List ℕ) (x : ℕ) → tabs (l ++ (x ∷ [])) ≡ tabs l + cond (eqb x 9) 1 0
+unfolding tabs
+tabs_snoc [] x = go (eqb x 9)
   where
-    go : (b : Bool) → any is_invalid (up_to s) ≡ b → ◌≡◌ {A = Option NumberField} None (cond b None (Some (record { length = tab_at s; number = number_in (up_to s) }))) → b ≡ true
-    go true q r = refl
-    go false q r = absurd (cc)
+    go : (b : Bool) → cond b 1 0 ≡ 0 + cond b 1 0
+    go true = refl
+    go false = refl
+tabs_snoc (y ∷ l) x = go (eqb y 9) (tabs_snoc l x)
+  where
+    go : (b : Bool) → tabs (l ++ (x ∷ [])) ≡ tabs l + cond (eqb x 9) 1 0 → cond b (suc (tabs (l ++ (x ∷ [])))) (tabs (l ++ (x ∷ []))) ≡ cond b (suc (tabs l)) (tabs l) + cond (eqb x 9) 1 0
+    go true e = omega arith
+    go false e = e
+
+pub tab_counted : (l : List ℕ) (i n : ℕ) → i < length l → n ≡ tabs (take i l) → get_or l i 0 ≡ 9 → n + 1 ≡ tabs (take (i + 1) l)
+tab_counted l i n h e q = rw (add-one i, take-suc l i 0 h, tabs_snoc (take i l) (get_or l i 0), eq-eqb (get_or l i 0) 9 q, ← e)
+
+pub other_passed : (l : List ℕ) (i n : ℕ) → i < length l → n ≡ tabs (take i l) → (get_or l i 0 ≡ 9 → ⊥) → n ≡ tabs (take (i + 1) l)
+other_passed l i n h e q = rw (add-one i, take-suc l i 0 h, tabs_snoc (take i l) (get_or l i 0), ne_eqb (get_or l i 0) 9 q, ← e) (omega arith)
+
+pub tabs_all : (l : List ℕ) (i n : ℕ) → length l ≤ i → n ≡ tabs (take i l) → n ≡ tabs l
+tabs_all l i n h e = e ∙ ap tabs (take_all i l h)
+
+-- what the proof of the count needs
+pub ruleset tab_steps = (tab_counted, other_passed, tabs_all)
+
+-- ---- tabs counted in parts
+pub tabs_few : (l : List ℕ) → tabs l ≤ length l
+unfolding tabs
+tabs_few [] = omega arith
+tabs_few (x ∷ l) = go (eqb x 9) (tabs_few l)
+  where
+    go : (b : Bool) → tabs l ≤ length l → cond b (suc (tabs l)) (tabs l) ≤ suc (length l)
+    go true h = omega arith
+    go false h = omega arith
+
+tabs-append : (l m : List ℕ) → tabs (l ++ m) ≡ tabs l + tabs m
+unfolding tabs
+tabs-append [] m = omega arith
+tabs-append (x ∷ l) m = go (eqb x 9) (tabs-append l m)
+  where
+    go : (b : Bool) → tabs (l ++ m) ≡ tabs l + tabs m → cond b (suc (tabs (l ++ m))) (tabs (l ++ m)) ≡ cond b (suc (tabs l)) (tabs l) + tabs m
+    go true e = omega arith
+    go false e = e
+
+-- the part a of what is left, t, is counted, and b is left
+pub part_counted : (l t a b : List ℕ) (n m : ℕ) → n + tabs t ≡ tabs l → t ≡ a ++ b → m ≡ tabs a → n + m + tabs b ≡ tabs l
+part_counted l t a b n m h p q = let e : tabs t ≡ tabs a + tabs b = ap tabs p ∙ tabs-append a b in omega (arith, h, e, q)
+
+pub few_left : (l t a b : List ℕ) (n m : ℕ) → n + length t ≤ length l → t ≡ a ++ b → m ≡ tabs a → n + m + length b ≤ length l
+few_left l t a b n m h p q = let e : length t ≡ length a + length b = ap length p ∙ length-append a b in omega (arith, h, e, q, tabs_few a)
+
+pub none_left : (l t : List ℕ) (n : ℕ) → n + tabs t ≡ tabs l → length t ≡ 0 → n ≡ tabs l
+unfolding tabs
+none_left l [] n h q = omega arith
+none_left l (x ∷ t) n h q = absurd (omega arith)
+
+-- ---- invalid bytes
+pub any_folded : (l : List ℕ) → fold (λ found b. found || is_invalid b) false l ≡ any is_invalid l
+unfolding any
+any_folded l = go false l
+  where
+    go : (a : Bool) (l : List ℕ) → fold (λ found b. found || is_invalid b) a l ≡ (a || any is_invalid l)
+    go a [] = sym (or_false a)
+    go a (x ∷ l) = go (a || is_invalid x) l ∙ or_assoc a (is_invalid x) (any is_invalid l)
 
 -- ---- fields in words
 -- no byte of a field is a tab

@@ -15,11 +15,6 @@ unfoldable pub past : List ℕ → List ℕ
 past [] = []
 past (x ∷ l) = cond (eqb x 9) l (past l)
 
--- how many bytes stand before the first tab
-unfoldable pub tab_at : List ℕ → ℕ
-tab_at [] = 0
-tab_at (x ∷ l) = cond (eqb x 9) 0 (suc (tab_at l))
-
 -- how many tabs
 unfoldable pub tabs : List ℕ → ℕ
 tabs [] = 0

@@ -1,5 +1,4 @@
 pub mod Fields
-pub mod NumberFields
 pub mod Numbers
 pub mod Digits
 pub mod Written

@@ -1,5 +1,6 @@
 -- Numbers in a field: base-ten digits, no sign, no leading zero but in 0 (document 01, Calls and the lines of a file).
-use Rattle.std.specs.Prelude.{Bool, ◌&&◌, ◌||◌, not, List, [], ◌∷◌, ℕ, ◌+◌, ◌-◌, ◌*◌, eqb, leb, length, get_or}
+use Rattle.std.specs.Prelude.{Option, Bool, ◌&&◌, ◌||◌, not, List, [], ◌∷◌, ℕ, ◌+◌, ◌-◌, ◌*◌, min, eqb, leb, length, get_or}
+use Rattle.std.specs.Bool.{then_some}
 use Rattle.lists.specs.Lists.{all}
 
 unfoldable pub is_digit : ℕ → Bool
@@ -21,6 +22,10 @@ value_of f = value_from 0 f
 -- the cap: it stands for every number from there on, and is above each range that a field has
 abbrev pub most : ℕ
 most = 1_000_000_000_000_000_000
+
+-- the number of a field, capped; none where it is no number
+unfoldable pub number_in : List ℕ → Option ℕ
+number_in f = then_some (is_number f) (min (value_of f) most)
 
 -- the field `-`, a missing value
 unfoldable pub is_dash : List ℕ → Bool

@@ -1,17 +1,18 @@
 -- Lists written from the front: one value on a part, and a part for each interval.
-use mathlib.Core.Path.{◌≡◌, refl, ap, sym, subst, ◌∙◌}
+use mathlib.Core.Path.{◌≡◌, refl, ap, ap₂, sym, ◌∙◌}
 use mathlib.Core.Logic.{◌⊎◌, inl, inr}
-use mathlib.Core.Bool.{Bool, true, false, ◌&&◌, cond}
-use mathlib.Core.List.{List}
+use mathlib.Core.Bool.{Bool, true, false, cond}
+use mathlib.Core.List.{List, ◌++◌}
 use mathlib.Core.Option.{some, none}
 use Prim.Native.Nat.{ℕ, zero, suc, ◌+◌, ◌-◌, ◌≤◌, ◌<◌}
 use native.Mathlib.Nat.{add-zero}
 use native.Mathlib.Omega.{arith}
-use lib.Dec.{eqb, leb, ltb}
-use lib.ListN.{length, get_or, set, length-set, replicate, take, drop}
-use native.Mathlib.Numerals.{add-one}
-use Rattle.std.proofs.lemmas.List.Edits.{paste_none, fill_from_more}
-use lib.Seq.{paste, ext_get_or, get_or-set_same, get_or-set_other}
+use lib.Dec.{eqb, leb}
+use lib.ListN.{length, get_or, set, replicate, length-replicate, take, drop}
+use Rattle.std.proofs.Common.{append_assoc, length-append, length-drop}
+use Rattle.std.proofs.lemmas.List.{take-append-drop, take-replicate, length-take-le, get_or_append_left, get_or-append_right, get_or-take, get_or-replicate}
+use Rattle.std.proofs.lemmas.List.Edits.{fill_from_more}
+use lib.Seq.{paste, ext_get_or}
 use borrow.Author.Tests.{lt-ltb, le-ltb, le-leb, lt-leb, ne_eqb, eqb-false}
 use Rattle.lists.specs.Lists.{tab, sum}
 use Rattle.lists.proofs.Laws.{length_tab, get_d_tab0}
@@ -25,62 +26,51 @@ use Rattle.lists.proofs.Ranges.{first_is, first_not}
 use Rattle.lists.proofs.Tests.{and_false}
 
 -- ---- one value on a part
-pub filled_length : (xs : List ℕ) (a b v : ℕ) → length (filled xs a b v) ≡ 4392
-unfolding filled
-filled_length xs a b v = length_tab 4392 0 (λ p. cond (leb a p && ltb p b) v (get_or xs p 0))
+module _ {A : Type 0} (xs : List A) (a : ℕ) (v : A) where
+  pub filled_length : (b : ℕ) → a ≤ b → b ≤ length xs → length (filled xs a b v) ≡ length xs
+  unfolding filled
+  filled_length b h l =
+      omega (
+        arith,
+        length-append (take a xs) (replicate (b - a) v ++ drop b xs),
+        length-append (replicate (b - a) v) (drop b xs),
+        length-take-le a xs (omega arith),
+        length-replicate (b - a) v,
+        length-drop b xs,
+      )
 
-filled_here : (xs : List ℕ) (a b v q : ℕ) → q < 4392 → get_or (filled xs a b v) q 0 ≡ cond (leb a q && ltb q b) v (get_or xs q 0)
-unfolding filled
-filled_here xs a b v q h = get_d_tab0 4392 (λ p. cond (leb a p && ltb p b) v (get_or xs p 0)) q 0 h
+  pub filled_before : (b q : ℕ) (d : A) → q < a → a ≤ length xs → get_or (filled xs a b v) q d ≡ get_or xs q d
+  unfolding filled
+  filled_before b q d h l =
+      get_or_append_left (take a xs) (replicate (b - a) v ++ drop b xs) d q (omega (arith, length-take-le a xs l)) ∙ get_or-take a xs q d h
 
-pub filled_in : (xs : List ℕ) (a b v q : ℕ) → a ≤ q → q < b → q < 4392 → get_or (filled xs a b v) q 0 ≡ v
-filled_in xs a b v q h l m = filled_here xs a b v q m ∙ rw (le-leb a q h, lt-ltb q b l)
+  pub filled_in : (b q : ℕ) (d : A) → a ≤ q → q < b → b ≤ length xs → get_or (filled xs a b v) q d ≡ v
+  unfolding filled
+  filled_in b q d h k l =
+      get_or-append_right (take a xs) (replicate (b - a) v ++ drop b xs) a q d (length-take-le a xs (omega arith)) h
+      ∙ get_or_append_left (replicate (b - a) v) (drop b xs) d (q - a) (omega (arith, length-replicate (b - a) v))
+      ∙ get_or-replicate (b - a) (q - a) v d (omega arith)
 
-pub filled_before : (xs : List ℕ) (a b v q : ℕ) → q < a → q < 4392 → get_or (filled xs a b v) q 0 ≡ get_or xs q 0
-filled_before xs a b v q h m = filled_here xs a b v q m ∙ rw (lt-leb a q h)
+  -- nothing is written yet
+  pub filled_none : xs ≡ filled xs a a v
+  unfolding filled
+  filled_none =
+      let e : a - a ≡ 0 = omega arith in
+      sym (ap (λ (n : ℕ). take a xs ++ (replicate n v ++ drop a xs)) e ∙ take-append-drop a xs)
 
-pub filled_after : (xs : List ℕ) (a b v q : ℕ) → a ≤ q → b ≤ q → q < 4392 → get_or (filled xs a b v) q 0 ≡ get_or xs q 0
-filled_after xs a b v q h l m = filled_here xs a b v q m ∙ rw (le-leb a q h, le-ltb q b l)
+  as_paste : (b n : ℕ) → n ≡ b - a → a + n ≡ b → paste xs a (replicate n v) n ≡ filled xs a b v
+  unfolding filled
+  as_paste b n e f =
+      append_assoc (take a xs) (take n (replicate n v)) (drop (a + n) xs)
+      ∙ ap₂ (λ (ys zs : List A). take a xs ++ (ys ++ zs)) (take-replicate n n v (omega arith) ∙ ap (λ (m : ℕ). replicate m v) e) (ap (λ (m : ℕ). drop m xs) f)
 
--- nothing is written yet
-pub filled_none : (xs : List ℕ) (a v : ℕ) → length xs ≡ 4392 → xs ≡ filled xs a a v
-filled_none xs a v e =
-    ext_get_or 0 xs (filled xs a a v) (e ∙ sym (filled_length xs a a v)) (λ q h. go q (omega arith) (tri q a))
-  where
-    go : (q : ℕ) → q < 4392 → (q < a) ⊎ ((q ≡ a) ⊎ (a < q)) → get_or xs q 0 ≡ get_or (filled xs a a v) q 0
-    go q h (inl l) = sym (filled_before xs a a v q l h)
-    go q h (inr (inl l)) = sym (filled_after xs a a v q (omega arith) (omega arith) h)
-    go q h (inr (inr l)) = sym (filled_after xs a a v q (omega arith) (omega arith) h)
-
--- one more place
-pub filled_more : (xs : List ℕ) (a p v : ℕ) → a ≤ p → p < 4392 → set (filled xs a p v) p v ≡ filled xs a (p + 1) v
-filled_more xs a p v h l =
-    ext_get_or 0 (set (filled xs a p v) p v) (filled xs a (p + 1) v) (long ∙ sym (filled_length xs a (p + 1) v)) (λ q m. go q (omega (arith, long)) (tri q p) (tri q a))
-  where
-    long : length (set (filled xs a p v) p v) ≡ 4392
-    long = length-set (filled xs a p v) p v ∙ filled_length xs a p v
-
-    go : (q : ℕ) → q < 4392 → (q < p) ⊎ ((q ≡ p) ⊎ (p < q)) → (q < a) ⊎ ((q ≡ a) ⊎ (a < q)) → get_or (set (filled xs a p v) p v) q 0 ≡ get_or (filled xs a (p + 1) v) q 0
-    go q m (inl s) (inl t) = get_or-set_other (filled xs a p v) p q v 0 (omega arith) ∙ filled_before xs a p v q t m ∙ sym (filled_before xs a (p + 1) v q t m)
-    go q m (inl s) (inr t) =
-        get_or-set_other (filled xs a p v) p q v 0 (omega arith) ∙ filled_in xs a p v q (from t) s m ∙ sym (filled_in xs a (p + 1) v q (from t) (omega arith) m)
-      where
-        from : (q ≡ a) ⊎ (a < q) → a ≤ q
-        from (inl e) = omega arith
-        from (inr e) = omega arith
-    go q m (inr (inl s)) t = rw s (get_or-set_same (filled xs a p v) p v 0 (omega (arith, filled_length xs a p v)) ∙ sym (filled_in xs a (p + 1) v p h (omega arith) l))
-    go q m (inr (inr s)) t =
-        get_or-set_other (filled xs a p v) p q v 0 (omega arith) ∙ filled_after xs a p v q (omega arith) (omega arith) m ∙ sym (filled_after xs a (p + 1) v q (omega arith) (omega arith) m)
-
--- n places, by the library's `fill` of a part
-pub filled_by : (xs : List ℕ) (a v n : ℕ) → length xs ≡ 4392 → a + n ≤ 4392 → paste xs a (replicate n v) n ≡ filled xs a (a + n) v
-filled_by xs a v zero e h = sym (paste_none xs a (replicate 0 v)) ∙ filled_none xs a v e ∙ ap (λ (p : ℕ). filled xs a p v) (sym (add-zero a))
-filled_by xs a v (suc n) e h = subst (λ (m : ℕ). paste xs a (replicate m v) m ≡ filled xs a (a + m) v) (add-one n) (next (filled_by xs a v n e (omega arith)))
-  where
-    next : paste xs a (replicate n v) n ≡ filled xs a (a + n) v → paste xs a (replicate (n + 1) v) (n + 1) ≡ filled xs a (a + (n + 1)) v
-    next f =
-        sym (fill_from_more xs a n v (omega arith)) ∙ ap (λ (l : List ℕ). set l (a + n) v) f ∙ filled_more xs a (a + n) v (omega arith) (omega arith)
-        ∙ ap (λ (p : ℕ). filled xs a p v) (omega arith)
+  -- one more place
+  pub filled_more : (p : ℕ) → a ≤ p → p < length xs → set (filled xs a p v) p v ≡ filled xs a (p + 1) v
+  filled_more p h l =
+      let e : a + (p - a) ≡ p = omega arith in
+      ap₂ (λ (ys : List A) (q : ℕ). set ys q v) (sym (as_paste p (p - a) refl e)) (sym e)
+      ∙ fill_from_more xs a (p - a) v (omega arith)
+      ∙ as_paste (p + 1) (p - a + 1) (omega arith) (omega arith)
 
 -- ---- the daily sums from a to the one before b, as a part of the block
 pub total_listed : (ds : List ℕ) (a b : ℕ) → a ≤ b → b ≤ length ds → library_sum (take (b - a) (drop a ds)) ≡ sum_between ds a b
@@ -140,40 +130,43 @@ first_within ps n r = go (eqb n 0) refl
         positive (suc m) q = omega arith
 
 -- ---- a part for each interval
--- below place m each entry is f of the interval around it
-abbrev pub Spread : List ℕ → ℕ → (ℕ → ℕ) → ℕ → List ℕ → Type 0
-Spread ps n f m xs = (q : ℕ) → q < m → get_or xs q 0 ≡ of_interval f (around ps n q)
+-- below place m each entry is what the interval around it has
+abbrev pub Spread : {A : Type 0} → List ℕ → ℕ → A → (ℕ → A) → ℕ → List A → Type 0
+Spread ps n z f m xs = (q : ℕ) → q < m → get_or xs q z ≡ of_interval z f (around ps n q)
 
-module _ (ps : List ℕ) (n : ℕ) (r : Rising ps n) (f : ℕ → ℕ) where
-  pub spread_start : (xs : List ℕ) (a : ℕ) → a ≤ 4392 → (0 < n → a ≡ get_or ps 0 0) → Spread ps n f a (filled xs 0 a 0)
-  spread_start xs a l h q k = rw (around_before ps n r q (λ p. omega (arith, h p))) (filled_in xs 0 a 0 q (omega arith) k (omega arith))
+module _ (ps : List ℕ) (n : ℕ) (r : Rising ps n) {A : Type 0} (z : A) (f : ℕ → A) where
+  pub spread_start : (xs : List A) (a : ℕ) → length xs ≡ 4392 → a ≤ 4392 → (0 < n → a ≡ get_or ps 0 0) → Spread ps n z f a (filled xs 0 a z)
+  spread_start xs a e l h q k = rw (around_before ps n r q (λ p. omega (arith, h p))) (filled_in xs 0 z a q z (omega arith) k (omega arith))
 
-  on : (xs : List ℕ) (i : ℕ) → i + 1 < n → Spread ps n f (interval_start ps i) xs → Spread ps n f (interval_end ps i) (filled xs (interval_start ps i) (interval_end ps i) (f i))
-  on xs i h s q k = go (tri q (interval_start ps i))
+  on : (xs : List A) (i : ℕ) → length xs ≡ 4392 → i + 1 < n → Spread ps n z f (interval_start ps i) xs → Spread ps n z f (interval_end ps i) (filled xs (interval_start ps i) (interval_end ps i) (f i))
+  on xs i e h s q k = go (tri q (interval_start ps i))
     where
-      small : q < 4392
-      small = omega (arith, r.below (i + 1) h)
+      end : interval_end ps i ≤ length xs
+      end = omega (arith, r.below (i + 1) h)
 
-      in_it : interval_start ps i ≤ q → get_or (filled xs (interval_start ps i) (interval_end ps i) (f i)) q 0 ≡ of_interval f (around ps n q)
-      in_it a = rw (around_here ps n r i q h a k) (filled_in xs (interval_start ps i) (interval_end ps i) (f i) q a k small)
+      in_it : interval_start ps i ≤ q → get_or (filled xs (interval_start ps i) (interval_end ps i) (f i)) q z ≡ of_interval z f (around ps n q)
+      in_it a = rw (around_here ps n r i q h a k) (filled_in xs (interval_start ps i) (f i) (interval_end ps i) q z a k end)
 
-      go : (q < interval_start ps i) ⊎ ((q ≡ interval_start ps i) ⊎ (interval_start ps i < q)) → get_or (filled xs (interval_start ps i) (interval_end ps i) (f i)) q 0 ≡ of_interval f (around ps n q)
-      go (inl a) = filled_before xs (interval_start ps i) (interval_end ps i) (f i) q a small ∙ s q a
+      go : (q < interval_start ps i) ⊎ ((q ≡ interval_start ps i) ⊎ (interval_start ps i < q)) → get_or (filled xs (interval_start ps i) (interval_end ps i) (f i)) q z ≡ of_interval z f (around ps n q)
+      go (inl a) = filled_before xs (interval_start ps i) (f i) (interval_end ps i) q z a (omega (arith, end, r.rises i h)) ∙ s q a
       go (inr (inl a)) = in_it (omega arith)
       go (inr (inr a)) = in_it (omega arith)
 
-  pub spread_on : (xs : List ℕ) (i a b v : ℕ) → i + 1 < n → a ≡ interval_start ps i → b ≡ interval_end ps i → v ≡ f i → Spread ps n f a xs → Spread ps n f b (filled xs a b v)
-  spread_on xs i a b v h d e g s = rw (d, e, g) (on xs i h (rw d at s))
+  pub spread_on : (xs : List A) (i a b : ℕ) (v : A) → length xs ≡ 4392 → i + 1 < n → a ≡ interval_start ps i → b ≡ interval_end ps i → v ≡ f i → Spread ps n z f a xs → Spread ps n z f b (filled xs a b v)
+  spread_on xs i a b v l h d e g s = rw (d, e, g) (on xs i l h (rw d at s))
 
-  pub spread_end : (xs : List ℕ) (a : ℕ) → (0 < n → a ≡ get_or ps (n - 1) 0) → Spread ps n f a xs → filled xs a 4392 0 ≡ tab 4392 0 (λ p. of_interval f (around ps n p))
-  spread_end xs a h s =
-      ext_get_or 0 (filled xs a 4392 0) (tab 4392 0 (λ p. of_interval f (around ps n p))) (filled_length xs a 4392 0 ∙ sym (length_tab 4392 0 (λ p. of_interval f (around ps n p))))
-      (λ q l. let k : q < 4392 = omega (arith, filled_length xs a 4392 0) in go q k (tri q a) ∙ sym (get_d_tab0 4392 (λ p. of_interval f (around ps n p)) q 0 k))
+  pub spread_end : (xs : List A) (a : ℕ) → length xs ≡ 4392 → a ≤ 4392 → (0 < n → a ≡ get_or ps (n - 1) 0) → Spread ps n z f a xs → filled xs a 4392 z ≡ tab 4392 0 (λ p. of_interval z f (around ps n p))
+  spread_end xs a e m h s =
+      ext_get_or z (filled xs a 4392 z) (tab 4392 0 (λ p. of_interval z f (around ps n p))) (long ∙ sym (length_tab 4392 0 (λ p. of_interval z f (around ps n p))))
+      (λ q l. let k : q < 4392 = omega (arith, long) in go q k (tri q a) ∙ sym (get_d_tab0 4392 (λ p. of_interval z f (around ps n p)) q z k))
     where
-      past : (q : ℕ) → q < 4392 → a ≤ q → get_or (filled xs a 4392 0) q 0 ≡ of_interval f (around ps n q)
-      past q k l = rw (around_after ps n r q (λ p. omega (arith, h p))) (filled_in xs a 4392 0 q l k k)
+      long : length (filled xs a 4392 z) ≡ 4392
+      long = filled_length xs a z 4392 m (omega arith) ∙ e
 
-      go : (q : ℕ) → q < 4392 → (q < a) ⊎ ((q ≡ a) ⊎ (a < q)) → get_or (filled xs a 4392 0) q 0 ≡ of_interval f (around ps n q)
-      go q k (inl l) = filled_before xs a 4392 0 q l k ∙ s q l
+      past : (q : ℕ) → q < 4392 → a ≤ q → get_or (filled xs a 4392 z) q z ≡ of_interval z f (around ps n q)
+      past q k l = rw (around_after ps n r q (λ p. omega (arith, h p))) (filled_in xs a z 4392 q z l k (omega arith))
+
+      go : (q : ℕ) → q < 4392 → (q < a) ⊎ ((q ≡ a) ⊎ (a < q)) → get_or (filled xs a 4392 z) q z ≡ of_interval z f (around ps n q)
+      go q k (inl l) = filled_before xs a z 4392 q z l (omega arith) ∙ s q l
       go q k (inr (inl l)) = past q k (omega arith)
       go q k (inr (inr l)) = past q k (omega arith)

@@ -20,6 +20,8 @@ use Rattle.meaning.specs.Points.{by_profile, position_at, interval_at, profiled_
 use Rattle.meaning.specs.Blocks.{Blocks, readings_of}
 use Rattle.meaning.specs.Record.{Tallies, history_of_site, readings_fit, daily_held, filing_held}
 use Rattle.readings.specs.Columns.{Columned}
+use Rattle.rounding.specs.declared.Energy.{Energy}
+use Rattle.rounding.specs.Units.{in_wh}
 use Rattle.validity.specs.Columns.{interval_start, interval_end}
 use Rattle.validity.specs.Days.{is_around, around, energy_in, sum_between, total_in, of_interval, energy_at, total_at, energies_of, totals_of}
 use Rattle.lists.proofs.Ranges.{through, first_tab, first_found, sum_same}
@@ -46,7 +48,7 @@ module _ (t : Site) (n : ℕ) (k : Tallies) (e : Bool) (w : Blocks) where
         sum_same (interval_end ps i - interval_start ps i) (interval_start ps i) (daily_at (filing_held t n k e w)) (λ p. get_or w.daily p 0)
         (λ p a b. daily_held_lem p (omega (arith, (fits (axis_years (history_of_site t)) cols fit).year (i + 1) h, (fits (axis_years (history_of_site t)) cols fit).rises i h)))
 
-    energy_held : (i : ℕ) → energy_of (interval_of ps xs ks i) ≡ energy_in xs i
+    energy_held : (i : ℕ) → energy_of (interval_of ps xs ks i) ≡ (energy_in xs i).0
     unfolding energy_of energy_in
     energy_held i = refl
 
@@ -60,7 +62,7 @@ module _ (t : Site) (n : ℕ) (k : Tallies) (e : Bool) (w : Blocks) where
     around_held p = rw (intervals_held t n k e w cols) (first_tab (λ v. has_day v p) (n - 1) 0 (interval_of ps xs ks))
 
     profiled_by : (p q : ℕ) (o : Option ℕ) → around ps n p ≡ o
-        → profiled_in (filing_held t n k e w) (through (interval_of ps xs ks) o) q ≡ by_profile (of_interval (energy_in xs) o) q (of_interval (total_in ps w.daily) o)
+        → profiled_in (filing_held t n k e w) (through (interval_of ps xs ks) o) q ≡ by_profile (of_interval (in_wh 0) (energy_in xs) o).0 q (of_interval 0 (total_in ps w.daily) o)
     unfolding profiled_in
     profiled_by p q none e' = refl
     profiled_by p q (some i) e' = rw (energy_held i, total_held i (in_columns p i e'))
@@ -73,14 +75,14 @@ module _ (t : Site) (n : ℕ) (k : Tallies) (e : Bool) (w : Blocks) where
     -- the profiled point
     pub profiled_held : (y v h : ℕ) → position_at (filing_held t n k e w) y v < 4392
         → profiled_at (filing_held t n k e w) y v h
-        ≡ by_profile (get_or (energies_of ps xs n) (position_at (filing_held t n k e w) y v) 0) ((filing_held t n k e w).profile y v h) (get_or (totals_of ps w.daily n) (position_at (filing_held t n k e w) y v) 0)
+        ≡ by_profile (get_or (energies_of ps xs n) (position_at (filing_held t n k e w) y v) (in_wh 0)).0 ((filing_held t n k e w).profile y v h) (get_or (totals_of ps w.daily n) (position_at (filing_held t n k e w) y v) 0)
     unfolding profiled_at energies_of totals_of energy_at total_at
     profiled_held y v h l =
         let F = filing_held t n k e w in
         let p = position_at F y v in
         let q = F.profile y v h in
         ap (λ (o : Option Interval). profiled_in F o q) (interval_held y v) ∙ profiled_by p q (around ps n p) refl
-        ∙ sym (ap₂ (λ (a b : ℕ). by_profile a q b) (get_d_tab0 4392 (energy_at ps xs n) p 0 l) (get_d_tab0 4392 (total_at ps w.daily n) p 0 l))
+        ∙ sym (ap₂ (λ (a b : ℕ). by_profile a q b) (ap (λ (x : Energy). x.0) (get_d_tab0 4392 (energy_at ps xs n) p (in_wh 0) l)) (get_d_tab0 4392 (total_at ps w.daily n) p 0 l))
 
   -- a history year's winter place is a position of the axis
   pub position_within : (j v : ℕ) → j < (history_of_site t).count → v < 152 → position_at (filing_held t n k e w) ((history_of_site t).first + j) v < 4392
@@ -92,7 +94,7 @@ module _ (t : Site) (n : ℕ) (k : Tallies) (e : Bool) (w : Blocks) where
 -- the same for a winter place of a history year
 pub profiled_year : (t : Site) (n : ℕ) (k : Tallies) (e : Bool) (w : Blocks) {ps xs ks : List ℕ} → Columned w n ps xs ks → T (readings_fit (axis_years (history_of_site t)) (readings_of w n)) → (y v h : ℕ) → T (among (history_of_site t) y) → v < 152
     → profiled_at (filing_held t n k e w) y v h
-    ≡ by_profile (get_or (energies_of ps xs n) (position_at (filing_held t n k e w) y v) 0) ((filing_held t n k e w).profile y v h) (get_or (totals_of ps w.daily n) (position_at (filing_held t n k e w) y v) 0)
+    ≡ by_profile (get_or (energies_of ps xs n) (position_at (filing_held t n k e w) y v) (in_wh 0)).0 ((filing_held t n k e w).profile y v h) (get_or (totals_of ps w.daily n) (position_at (filing_held t n k e w) y v) 0)
 profiled_year t n k e w cols fit y v h a l =
     let b = (among_words (history_of_site t) y).0 a in
     let j = y - (history_of_site t).first in

@@ -1,8 +1,10 @@
 // The readings as columns, and the intervals between neighbouring readings.
 ghost use Rattle.std.specs.Prelude.{◌≡◌, ◌+◌, ◌-◌, ◌<◌, ◌≤◌, ◌^◌, get_or};
+ghost use Rattle.rounding.specs.Units.{in_wh};
 ghost use Rattle.validity.specs.Columns.{interval_start, interval_end, meets_winter, is_trusted_at};
 
 use readings::Columns;
+use rounding::Energy;
 
 // The counted readings of a file: the first n places of each column. A column that is shorter than n reads as a fresh reading past its end, so that
 // nothing is asked; a slice cut to n would ask of a caller that n is within it.
@@ -44,11 +46,11 @@ impl Counted<'_> {
         self.positions.get(i).copied().unwrap_or(0) as usize
     }
 
-    // The index of a reading.
-    pub fn index(&self, i: usize) -> u64
-        ensures { result ≡ get_or self.now.indexes.now i 0 }
+    // The index of a reading, an energy; the column has its number.
+    pub fn index(&self, i: usize) -> Energy
+        ensures { result ≡ in_wh (get_or self.now.indexes.now i 0) }
     {
-        self.indexes.get(i).copied().unwrap_or(0)
+        Energy(self.indexes.get(i).copied().unwrap_or(0))
     }
 
     // The letter of a reading's kind.

@@ -1,4 +1,5 @@
 // The report of a file: level, points and years.
+use rounding::Watts;
 
 // A history year: its case as printed on the sheet, and its points present. All 0 where the file has no such year: a close hands back fixed values
 // there and on a refusal, which an Option would change. The case is a letter and not a `Case`: the sheet's text is promised of every row.
@@ -9,10 +10,10 @@ pub struct YearRow {
     pub present: u64,
 }
 
-// The level in W, the points counted and the years, from the oldest on: a place for each year of the longest history, since there is no heap.
+// The level, the points counted and the years, from the oldest on: a place for each year of the longest history, since there is no heap.
 #[derive(Clone, Copy)]
 pub(crate) struct FileReport {
-    pub level: u64,
+    pub level: Watts,
     pub points: u64,
     pub years: [YearRow; 10],
 }

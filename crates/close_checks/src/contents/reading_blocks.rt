@@ -7,16 +7,17 @@ ghost use Rattle.readings.specs.Columns.{readings_in};
 
 use crate::contents::axis_blocks::Axis;
 use readings::is_kind;
+use rounding::Energy;
 use validity::Counted;
 
-const MOST_INDEX: u64 = 1_000_000_000_000;
+const MOST_INDEX: Energy = Energy(1_000_000_000_000);
 
 impl Axis {
     #[tactic(auto, unfolding(meaning::specs::Record::reading_fits, crate::specs::Axis::placed_at))]
-    fn reading_fits(self, position: usize, index: u64, kind: u8) -> bool
-        ensures { result ≡ reading_fits self.years (reading position index (kind_of_letter kind)) }
+    fn reading_fits(self, position: usize, index: Energy, kind: u8) -> bool
+        ensures { result ≡ reading_fits self.years (reading position index.0 (kind_of_letter kind)) }
     {
-        index <= MOST_INDEX && is_kind(kind) && self.is_placed(position)
+        index.0 <= MOST_INDEX.0 && is_kind(kind) && self.is_placed(position)
     }
 
     // Whether the counted readings fit, in one pass. A `for`, since each is tested by the least position and the least index that the one before
@@ -25,14 +26,14 @@ impl Axis {
         ensures { result ≡ readings_fit self.years (readings_in readings.now.positions.now readings.now.indexes.now readings.now.kinds.now readings.now.n) }
     {
         let mut least = 0;
-        let mut index = 0;
+        let mut index = Energy(0);
         for k in 0..readings.n {
             let p = readings.position(k);
             let x = readings.index(k);
             if !self.reading_fits(p, x, readings.letter(k)) {
                 return false;
             }
-            if p < least || x < index {
+            if p < least || x.0 < index.0 {
                 return false;
             }
             least = p + 1;

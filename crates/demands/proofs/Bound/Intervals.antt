@@ -1,4 +1,4 @@
--- Where a close is not refused, the daily sums over the interval around a day of a valid index year's winter are not all 0.
+-- Where a close is not refused by 17, the daily sums over the interval around a day of a valid index year's winter are not all 0.
 use mathlib.Core.Path.{◌≡◌, refl}
 use mathlib.Core.Bool.{Bool, true, false, not, ◌&&◌, ◌||◌}
 use mathlib.Core.Option.{some, none}
@@ -22,8 +22,8 @@ use Rattle.meaning.specs.Closing.{zero_total, close_holds, close_order, closing_
 use Rattle.meaning.proofs.Passed.{each_head, each_tail}
 use Rattle.demands.proofs.Bound.Years.{InHistory, in_history, axis_before}
 
--- 17 does not hold
-no_zero_total : (F : Filing) → closing_refusal F ≡ none → T (not (close_holds zero_total F))
+-- 17 does not hold where nothing refuses
+pub no_zero_total : (F : Filing) → closing_refusal F ≡ none → T (not (close_holds zero_total F))
 unfolding closing_refusal close_order
 no_zero_total F e = each_head (each_tail (each_tail (each_tail (first_none (λ k. close_holds k F) close_order e))))
 
@@ -56,7 +56,7 @@ covered F y h =
     and_left (is_covered F y) sound (and_right (not (F.broken y)) (is_covered F y && sound) h)
 
 -- a winter place with a date is one of the 152
-in_152 : (y w : ℕ) → T (has_winter_date y w) → w < 152
+pub in_152 : (y w : ℕ) → T (has_winter_date y w) → w < 152
 in_152 y w t = go (ltb w 152) refl
   where
     go : (b : Bool) → ltb w 152 ≡ b → w < 152
@@ -117,7 +117,7 @@ module _ (F : Filing) (known : T (is_known F.site.al F.site.filiere)) (y w : ℕ
       first_some (λ v. has_day v p) (any_some (λ v. has_day v p) (intervals F) (each_in each in_winter))
 
   -- and, 17 not being met, its daily sums are not all 0
-  pub total_positive : closing_refusal F ≡ none → T (index_valid F y) → (v : Interval) × (interval_at F y w ≡ some v) × (0 < total_of F v)
-  total_positive e h =
+  pub total_positive : T (not (close_holds zero_total F)) → T (index_valid F y) → (v : Interval) × (interval_at F y w ≡ some v) × (0 < total_of F v)
+  total_positive n h =
       let a = around h in
-      (a.0, a.1, not_zero F y t (no_zero_total F e) h a.0 a.3 (overlaps a.0 a.2))
+      (a.0, a.1, not_zero F y t n h a.0 a.3 (overlaps a.0 a.2))

@@ -23,7 +23,7 @@ use Rattle.meaning.specs.Closing.{closing_refusal}
 use Rattle.demands.proofs.Bound.Near.{Near, both_map, near_rounded, near_whole, near_total, near_rebuilt, Agree}
 use Rattle.demands.proofs.Bound.Sane.{Sane}
 use Rattle.demands.proofs.Bound.Years.{InHistory, each_year_lem, some_year, first_year}
-use Rattle.demands.proofs.Bound.Intervals.{total_positive}
+use Rattle.demands.proofs.Bound.Intervals.{no_zero_total, total_positive}
 
 -- ---- a year's own points
 -- as read: no rounding
@@ -131,7 +131,7 @@ module _ (F : Filing) (s : Sane F) (ok : closing_refusal F ≡ none) where
       → Near 1 2 (rounded_origin (profiled_at F y w h)) (fraction_of (profiled_at F y w h))
   unfolding profiled_at profiled_in
   profiled_close y w h t dated valid =
-      let v = total_positive F s.known y w t dated ok valid in
+      let v = total_positive F s.known y w t dated (no_zero_total F ok) valid in
       rw v.1 (profiled_near (energy_of v.0) (F.profile y w h) (total_of F v.0) v.2)
 
   -- a donor year's CA, for a target year

@@ -1,27 +1,27 @@
 // What C and P lines change: a row of 20 values at a winter date, and the progress.
 ghost use Rattle.std.specs.Prelude.{◌≡◌, length};
 ghost use Rattle.meaning.specs.Line.{C, P};
-ghost use Rattle.line_checks.specs.Before.{EachTagged, SomeTagged};
+ghost use Rattle.line_checks.specs.Before.{Known};
 ghost use Rattle.progress.specs.ProgressViews.{StepsTo, without_reading};
 ghost use Rattle.progress.specs.Steps.{point_blocks, slot_block, FewDates};
 
 use crate::points_and_profiles::checks::{check_points, check_profiles};
 use blocks::{put_points, put_profiles};
-use line_form::{Fields, Tag, rank};
+use line_form::{Tag, rank};
 use progress::Progress;
 use refusals::Refusal;
 
 // Applies a C line: 20 points in the row of its year.
-pub fn points_line(
+pub(crate) fn points_line(
     progress: &mut Progress,
-    fields: Fields,
+    line: &[u8],
     near: &mut [u32],
     far: &mut [u32],
 ) -> Result<(), Refusal>
-    requires { SomeTagged C fields × ((length near.old ≡ 15200) × (length far.old ≡ 15200)) }
-    ensures { EachTagged C fields (λ l. StepsTo progress.old l (point_blocks near.old far.old) progress.new (without_reading result) (point_blocks near.new far.new)) }
+    requires { Known C line.now × ((length near.old ≡ 15200) × (length far.old ≡ 15200)) }
+    ensures { StepsTo progress.old line.now (point_blocks near.old far.old) progress.new (without_reading result) (point_blocks near.new far.new) }
 {
-    let checked = check_points(progress, fields)?;
+    let checked = check_points(progress, line)?;
     let date = checked.date;
     put_points(
         near,
@@ -29,7 +29,7 @@ pub fn points_line(
         progress.site.al,
         date.year,
         date.place,
-        &checked.codes,
+        &checked.points,
     );
     progress.lasts.c = date.key;
     progress.last = rank(Tag::C);
@@ -37,19 +37,19 @@ pub fn points_line(
 }
 
 // Applies a P line: 20 profile values in the row of its year, and one more date.
-pub fn profiles_line(
+pub(crate) fn profiles_line(
     progress: &mut Progress,
-    fields: Fields,
+    line: &[u8],
     slots: &mut [u16],
 ) -> Result<(), Refusal>
-    requires { SomeTagged P fields × FewDates progress.old.tallies.profile_dates × (length slots.old ≡ 30400) }
-    ensures { EachTagged P fields (λ l. StepsTo progress.old l (slot_block slots.old) progress.new (without_reading result) (slot_block slots.new)) }
+    requires { Known P line.now × FewDates progress.old.tallies.profile_dates × (length slots.old ≡ 30400) }
+    ensures { StepsTo progress.old line.now (slot_block slots.old) progress.new (without_reading result) (slot_block slots.new) }
 {
-    let checked = check_profiles(progress, fields)?;
+    let checked = check_profiles(progress, line)?;
     let date = checked.date;
     let years = progress.site.history();
     let i = years.row(date.year);
-    put_profiles(slots, years.first, date.year, date.place, &checked.codes);
+    put_profiles(slots, years.first, date.year, date.place, &checked.values);
     progress.tallies.profile_dates[i] += 1;
     progress.lasts.p = date.key;
     progress.last = rank(Tag::P);

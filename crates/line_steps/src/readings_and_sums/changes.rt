@@ -1,23 +1,23 @@
 // What X and D lines change: the progress, and a daily sum at its position; the caller stores the reading.
 ghost use Rattle.std.specs.Prelude.{◌≡◌, length};
 ghost use Rattle.meaning.specs.Line.{X, D};
-ghost use Rattle.line_checks.specs.Before.{EachTagged, SomeTagged};
+ghost use Rattle.line_checks.specs.Before.{Known};
 ghost use Rattle.progress.specs.ProgressViews.{StepsTo, without_reading};
 ghost use Rattle.progress.specs.Steps.{no_block, daily_block, FewDates};
 
 use crate::readings_and_sums::checks::{check_daily, check_reading};
 use blocks::put_sum;
-use line_form::{Fields, Tag, rank};
+use line_form::{Tag, rank};
 use progress::Progress;
 use readings::Reading;
 use refusals::Refusal;
 
 // Applies an X line: one more reading, which the caller stores.
-pub fn reading_line(progress: &mut Progress, fields: Fields) -> Result<Option<Reading>, Refusal>
-    requires { SomeTagged X fields }
-    ensures { EachTagged X fields (λ l. StepsTo progress.old l no_block progress.new result no_block) }
+pub(crate) fn reading_line(progress: &mut Progress, line: &[u8]) -> Result<Option<Reading>, Refusal>
+    requires { Known X line.now }
+    ensures { StepsTo progress.old line.now no_block progress.new result no_block }
 {
-    let checked = check_reading(progress, fields)?;
+    let checked = check_reading(progress, line)?;
     progress.lasts.x = checked.key;
     progress.readings += 1;
     progress.last_index = checked.index;
@@ -30,11 +30,15 @@ pub fn reading_line(progress: &mut Progress, fields: Fields) -> Result<Option<Re
 }
 
 // Applies a D line: the daily sum at its position, and one more date.
-pub fn daily_line(progress: &mut Progress, fields: Fields, daily: &mut [u32]) -> Result<(), Refusal>
-    requires { SomeTagged D fields × FewDates progress.old.tallies.daily_dates × (length daily.old ≡ 4392) }
-    ensures { EachTagged D fields (λ l. StepsTo progress.old l (daily_block daily.old) progress.new (without_reading result) (daily_block daily.new)) }
+pub(crate) fn daily_line(
+    progress: &mut Progress,
+    line: &[u8],
+    daily: &mut [u32],
+) -> Result<(), Refusal>
+    requires { Known D line.now × FewDates progress.old.tallies.daily_dates × (length daily.old ≡ 4392) }
+    ensures { StepsTo progress.old line.now (daily_block daily.old) progress.new (without_reading result) (daily_block daily.new) }
 {
-    let checked = check_daily(progress, fields)?;
+    let checked = check_daily(progress, line)?;
     let years = progress.site.axis();
     let i = years.row(checked.year);
     put_sum(daily, checked.position, checked.sum);

@@ -4,15 +4,16 @@ ghost use Rattle.calendar.specs.Spans.{history_years};
 ghost use Rattle.meaning.specs.Line.{X, D};
 ghost use Rattle.meaning.specs.Refusals.{refusal};
 ghost use Rattle.refusals.specs.Refusals.{unless_reason};
-ghost use Rattle.line_checks.specs.Before.{EachTagged, before_rising, before_reading};
+ghost use Rattle.line_checks.specs.Before.{Known, before_rising, before_reading};
 ghost use Rattle.line_steps.specs.ReadingAnswers.{reading_on, daily_on, axis_checked};
 
 use calendar::Date;
 use line_checks::{dated_checks, in_order, is_misplaced, is_outside, position_at};
-use line_form::{Fields, Tag, read_daily, read_reading};
+use line_form::{Tag, read_daily, read_reading};
 use progress::Progress;
 use readings::Kind;
 use refusals::{Refusal, refuse_if};
+use rounding::Energy;
 
 // The date of an X or D line: the position, and the key, which must rise.
 #[derive(Clone, Copy)]
@@ -25,7 +26,7 @@ pub(crate) struct AxisChecked {
 #[derive(Clone, Copy)]
 pub(crate) struct ReadingChecked {
     pub position: usize,
-    pub index: u64,
+    pub index: Energy,
     pub kind: Kind,
     pub key: u64,
 }
@@ -61,14 +62,15 @@ fn check_axis(
 }
 
 // Checks an X line. 8, 10 and 11 use the last reading's date, its index and the number of readings.
-pub(crate) fn check_reading(progress: &Progress, fields: Fields) -> Result<ReadingChecked, Refusal>
-    ensures { EachTagged X fields (λ l. result ≡ unless_reason (refusal (before_reading progress.now.last (history_years progress.now.site.al progress.now.site.filiere) progress.now.lasts.x progress.now.last_index progress.now.readings) l) (reading_on (history_years progress.now.site.al progress.now.site.filiere) l)) }
+pub(crate) fn check_reading(progress: &Progress, line: &[u8]) -> Result<ReadingChecked, Refusal>
+    requires { Known X line.now }
+    ensures { result ≡ unless_reason (refusal (before_reading progress.now.last (history_years progress.now.site.al progress.now.site.filiere) progress.now.lasts.x progress.now.last_index.0 progress.now.readings) line.now) (reading_on (history_years progress.now.site.al progress.now.site.filiere) line.now) }
 {
     let misplaced = is_misplaced(progress.last, Tag::X);
-    let read = in_order(misplaced, read_reading(fields))?;
-    let above = 1_000_000_000_000 < read.index;
+    let read = in_order(misplaced, read_reading(line))?;
+    let above = 1_000_000_000_000 < read.index.0;
     let date = check_axis(progress, read.date, above, progress.lasts.x)?;
-    refuse_if(read.index < progress.last_index, Refusal::Falling)?;
+    refuse_if(read.index.0 < progress.last_index.0, Refusal::Falling)?;
     refuse_if(600 <= progress.readings, Refusal::TooMany)?;
     Ok(ReadingChecked {
         position: date.position,
@@ -78,11 +80,12 @@ pub(crate) fn check_reading(progress: &Progress, fields: Fields) -> Result<Readi
     })
 }
 
-pub(crate) fn check_daily(progress: &Progress, fields: Fields) -> Result<DailyChecked, Refusal>
-    ensures { EachTagged D fields (λ l. result ≡ unless_reason (refusal (before_rising progress.now.last (history_years progress.now.site.al progress.now.site.filiere) progress.now.lasts.d) l) (daily_on (history_years progress.now.site.al progress.now.site.filiere) l)) }
+pub(crate) fn check_daily(progress: &Progress, line: &[u8]) -> Result<DailyChecked, Refusal>
+    requires { Known D line.now }
+    ensures { result ≡ unless_reason (refusal (before_rising progress.now.last (history_years progress.now.site.al progress.now.site.filiere) progress.now.lasts.d) line.now) (daily_on (history_years progress.now.site.al progress.now.site.filiere) line.now) }
 {
     let misplaced = is_misplaced(progress.last, Tag::D);
-    let read = in_order(misplaced, read_daily(fields))?;
+    let read = in_order(misplaced, read_daily(line))?;
     let above = 3_145_680 < read.sum;
     let date = check_axis(progress, read.date, above, progress.lasts.d)?;
     Ok(DailyChecked {

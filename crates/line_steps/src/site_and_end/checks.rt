@@ -5,10 +5,10 @@ ghost use Rattle.meaning.specs.Refusals.{refusal};
 ghost use Rattle.refusals.specs.Refusals.{unless_reason};
 ghost use Rattle.line_form.specs.Ranges.{is_site_outside};
 ghost use Rattle.line_form.specs.Views.{site_repr};
-ghost use Rattle.line_checks.specs.Before.{EachTagged, before_first, before_end};
+ghost use Rattle.line_checks.specs.Before.{Known, before_first, before_end};
 
 use line_checks::{in_order, is_misplaced};
-use line_form::{Fields, NO_TAG, Site, Tag, is_too_soon, read_count, read_site};
+use line_form::{NO_TAG, Site, Tag, is_too_soon, read_count, read_site};
 use progress::Progress;
 use refusals::{Refusal, refuse_if};
 
@@ -18,24 +18,26 @@ fn is_site_outside(site: Site) -> bool
 {
     !(2021..=2026).contains(&site.al)
         || !(1..=11).contains(&site.filiere)
-        || !(1..=100_000_000).contains(&site.ps)
+        || !(1..=100_000_000).contains(&site.ps.0)
 }
 
 // The site of an S line.
-pub(crate) fn check_site(progress: &Progress, fields: Fields) -> Result<Site, Refusal>
-    ensures { EachTagged S fields (λ l. result ≡ unless_reason (refusal (before_first progress.now.last) l) (site_repr (site_on l))) }
+pub(crate) fn check_site(progress: &Progress, line: &[u8]) -> Result<Site, Refusal>
+    requires { Known S line.now }
+    ensures { result ≡ unless_reason (refusal (before_first progress.now.last) line.now) (site_repr (site_on line.now)) }
 {
-    let site = in_order(progress.last != NO_TAG, read_site(fields))?;
+    let site = in_order(progress.last != NO_TAG, read_site(line))?;
     refuse_if(is_site_outside(site), Refusal::Outside)?;
     refuse_if(is_too_soon(site.al, site.filiere), Refusal::TooSoon)?;
     Ok(site)
 }
 
-pub(crate) fn check_end(progress: &Progress, count: u64, fields: Fields) -> Result<(), Refusal>
-    ensures { EachTagged E fields (λ l. result ≡ unless_reason (refusal (before_end progress.now.last count) l) tt) }
+pub(crate) fn check_end(progress: &Progress, count: u64, line: &[u8]) -> Result<(), Refusal>
+    requires { Known E line.now }
+    ensures { result ≡ unless_reason (refusal (before_end progress.now.last count) line.now) tt }
 {
     let misplaced = is_misplaced(progress.last, Tag::E);
-    let lines = in_order(misplaced, read_count(fields))?;
+    let lines = in_order(misplaced, read_count(line))?;
     refuse_if(9999 < lines, Refusal::Outside)?;
     refuse_if(lines != count, Refusal::Miscounted)
 }

@@ -4,19 +4,23 @@ use mathlib.Core.Logic.Iff
 use mathlib.Core.Logic.{◌≢◌, ◌↔◌}
 use mathlib.Core.Bool.{Bool, true, false, ◌&&◌, cond}
 use mathlib.Core.Option.{Option, some, none}
-use Prim.Native.Nat.{ℕ, ◌+◌}
+use Prim.Native.Nat.{ℕ, zero, suc, ◌+◌}
 use lib.Dec.{T, not_T}
+use lib.ListN.{replicate, length-replicate}
+use Rattle.lists.specs.Lists.{Each, each_nil, each_cons}
 use Rattle.lists.proofs.Reflect.{of_and}
 use Rattle.lists.proofs.Tests.{is_false, is_true}
 use Rattle.meaning.proofs.States.{is_open_lem, not_open, open_only}
-use Rattle.meaning.specs.Line.{Line}
+use Rattle.meaning.specs.Filing.{no_site}
+use Rattle.meaning.specs.Line.{Line, Tag, S, C, X, D, P, B, R, E, other}
 use Rattle.meaning.specs.Refusals.{Reason, number_of, refusal}
-use Rattle.meaning.specs.Level.{report_of, curve_of}
+use Rattle.meaning.specs.Level.{report_of, curve_of, missing_entry}
 use Rattle.meaning.specs.Closing.{CloseReason, close_number, closing_refusal}
-use Rattle.meaning.specs.Blocks.{Blocks, sizes_fit}
-use Rattle.meaning.specs.Record.{State, open_state, refused_state, closed_state, is_open, Rec, in_state, empty_rec, never_opened, fresh_rec, rec_fits, contents_fit, before_of, filing_of}
+use Rattle.meaning.specs.Blocks.{Blocks, missing_point, points_size, slots_size, daily_size, readings_size, curve_size, sizes_fit, fresh_reading, fresh_blocks}
+use Rattle.meaning.specs.Record.{State, open_state, refused_state, closed_state, is_open, Rec, last_of, in_state, empty_rec, never_opened, fresh_rec, rec_fits, contents_fit, before_of, filing_of}
 use Rattle.meaning.specs.Calls.{Out, out, accepted, refused, reported, leaves, opening_of, rec_after, line_by, with_curve, line_of, close_by, close_of}
-use Rattle.meaning.specs.Restated.Calls.{Marked, Fit, FitClose, CallWords}
+use Rattle.meaning.specs.Restated.Calls.{Marked, Fit, FitClose, CallWords, FreshWords}
+use Rattle.meaning.proofs.Sizes.{Sizes, sizes_fit_lem}
 
 -- ---- what 1 checks
 fits : (s : Rec) (w : Blocks) → Fit s w → (sizes_fit w && rec_fits s) ≡ true
@@ -97,4 +101,54 @@ call_words = record {
   close_refused = λ s w k f e h. subst (λ (o : Out). (o.answer ≡ refused (close_number k) s.count) × Marked refused_state s.count s o.after × (o.blocks ≡ w)) (sym (close_is s w f e (some k) h)) (refused_close s w k);
   close_reports = λ s w f e h. subst (λ (o : Out). (o.answer ≡ reported (report_of (filing_of s w))) × Marked closed_state s.count s o.after × (o.blocks ≡ with_curve w (curve_of (filing_of s w)))) (sym (close_is s w f e none h)) (reported_close s w);
   after_close = after_any_close;
+}
+
+-- ---- what an opening leaves
+each_fresh : {A : Type 0} (n : ℕ) (v : A) → Each (λ x. x ≡ v) (replicate n v)
+each_fresh zero v = each_nil
+each_fresh (suc n) v = each_cons refl (each_fresh n v)
+
+no_last : (t : Tag) → last_of fresh_rec.lasts t ≡ 0
+unfolding fresh_rec empty_rec
+no_last S = refl
+no_last C = refl
+no_last X = refl
+no_last D = refl
+no_last P = refl
+no_last B = refl
+no_last R = refl
+no_last E = refl
+no_last other = refl
+
+fresh_sizes : Sizes fresh_blocks
+unfolding fresh_blocks
+fresh_sizes = record {
+  near = length-replicate points_size missing_point;
+  far = length-replicate points_size missing_point;
+  slots = length-replicate {A = ℕ} slots_size 0;
+  daily = length-replicate {A = ℕ} daily_size 0;
+  readings = length-replicate readings_size fresh_reading;
+  curve = length-replicate curve_size missing_entry;
+}
+
+pub fresh_words : FreshWords
+unfolding fresh_blocks fresh_rec empty_rec no_site
+fresh_words = record {
+  near = each_fresh points_size missing_point;
+  far = each_fresh points_size missing_point;
+  slots = each_fresh slots_size 0;
+  daily = each_fresh daily_size 0;
+  listed = each_fresh readings_size fresh_reading;
+  curve = each_fresh curve_size missing_entry;
+  sizes = sizes_fit_lem fresh_blocks fresh_sizes;
+  count = refl;
+  last = refl;
+  site = refl;
+  readings = refl;
+  last_index = refl;
+  lasts = no_last;
+  profile_dates = each_fresh 10 0;
+  daily_dates = each_fresh 12 0;
+  breaks = each_fresh 10 0;
+  rates = each_fresh 10 0;
 }

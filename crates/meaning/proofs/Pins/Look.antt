@@ -11,7 +11,7 @@ use lib.Dec.{T, eqb, ltb}
 use lib.ListN.{length}
 use borrow.Author.Tests.{eqb-true}
 use Rattle.lists.specs.Lists.{or_else, seek, present, Each, each_nil, Some}
-use Rattle.lists.specs.Restated.{First}
+use Rattle.lists.specs.Restated.{CountIs, First}
 use Rattle.lists.proofs.Laws.{some_map}
 use Rattle.lists.proofs.Reflect.{of_eq, of_lt, of_and, of_any}
 use Rattle.lists.proofs.Tables.{each_snoc}
@@ -27,7 +27,7 @@ use Rattle.text.proofs.NumberLaws.{of_dash}
 use Rattle.meaning.specs.Filing.{no_meter, curve_meter, index_meter, Kind, real, corrected, estimated, no_kind}
 use Rattle.meaning.specs.Line.{Line, Tag, S, C, X, D, P, B, R, E, is, tag_of, meter_of_letter, meter_of, number_at, year_on, month_on, day_on, site_on, value_at, point_of, kind_of_letter, kind_of, has_date_on, date_key, key_of, winter_on, place_on}
 use Rattle.meaning.specs.Refusals.{Reason, misplaced, no_date, not_later}
-use Rattle.meaning.specs.File.{site_in, refusal_at, point_on, point_in, profile_on, profile_in, daily_on, daily_in, reading_on, readings_in, broken_in, rate_in, dates_in, ended_in}
+use Rattle.meaning.specs.File.{site_in, refusal_at, point_on, point_in, profile_on, profile_in, daily_on, daily_in, reading_on, readings_in, broken_in, rate_in, dates_in, ended_in, filing_in}
 use Rattle.meaning.specs.Blocks.{letter_of_kind}
 use Rattle.meaning.specs.Sheet.{outcome_by, outcome_from, outcome_of}
 use Rattle.meaning.specs.Restated.Dates.{Date, Winter}
@@ -206,8 +206,12 @@ rate_words ls f y r = (
   λ s. found (λ (l : Line). is R (tag_of l) && eqb (year_on l) y) (λ l. number_at l 2) (of_year R y) (no_second_rate y) ls f r s,
 )
 
+dates : (t : Tag) (ls : List Line) (y : ℕ) → CountIs (λ l. (tag_of l ≡ t) × (year_on l ≡ y)) ls (dates_in t ls y)
+unfolding dates_in
+dates t ls y = (of_count (λ (l : Line). is t (tag_of l) && eqb (year_on l) y) (of_year t y) ls (dates_in t ls y)).0 refl
+
 pub look_words : LookWords
-unfolding broken_in ended_in dates_in readings_in reading_on point_in seek present
+unfolding filing_in broken_in ended_in readings_in reading_on point_in seek present
 look_words = record {
   point = point_words;
   profile = profile_words;
@@ -215,10 +219,12 @@ look_words = record {
   daily = daily_words;
   no_daily = no_daily_words;
   site = site_words_in;
+  ca = λ ls y. refl;
   rate = rate_words;
   broken = λ ls y. of_any (λ (l : Line). is B (tag_of l) && eqb (year_on l) y) (of_year B y) ls;
   ended = λ ls. of_any (λ (l : Line). is E (tag_of l)) (λ l. of_is E (tag_of l)) ls;
-  dates = λ t ls y. (of_count (λ (l : Line). is t (tag_of l) && eqb (year_on l) y) (of_year t y) ls (dates_in t ls y)).0 refl;
+  profile_dates = λ ls y. dates P ls y;
+  daily_dates = λ ls y. dates D ls y;
   readings = λ ls. present_keep (λ (l : Line). is X (tag_of l)) (reading_of ls) ls;
   no_point = λ y w h. refl;
   no_reading_lem = refl;

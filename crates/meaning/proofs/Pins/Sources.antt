@@ -1,5 +1,5 @@
 -- Where the points come from, and that none has the value that stands for missing.
-use mathlib.Core.Path.{◌≡◌, refl, ap, sym, ◌∙◌}
+use mathlib.Core.Path.{◌≡◌, refl, ap, sym, subst, ◌∙◌}
 use mathlib.Core.Logic.Iff
 use mathlib.Core.Logic.{◌≢◌, ◌↔◌, ◌⊎◌, inl, inr}
 use mathlib.Core.Bool.{Bool, true, false, ◌&&◌, cond}
@@ -21,8 +21,8 @@ use Rattle.calendar.proofs.Laws.Positions.{among_words, known_history, has_histo
 use Rattle.note.specs.Peaks.{peak_days}
 use Rattle.note.specs.Coefficients.{theta}
 use Rattle.rounding.specs.Rounding.{half_up}
-use Rattle.rounding.specs.Points.{rounded, profiled, rebuilt, by_default, rated}
-use Rattle.rounding.proofs.Laws.{half_up_only}
+use Rattle.rounding.specs.Points.{Fraction, rounded, profiled, rebuilt, by_default, rated}
+use Rattle.rounding.proofs.Laws.{half_up_above, half_up_below, half_up_only}
 use Rattle.rounding.proofs.Formulas.{rated_most}
 use Rattle.meaning.specs.Filing.{Filing, Reading, history_of, years_in, history_list}
 use Rattle.meaning.specs.Validity.{Interval, intervals, has_day, energy_of, total_of, curve_valid, index_valid}
@@ -32,11 +32,23 @@ use Rattle.meaning.specs.Level.{missing_entry}
 use Rattle.meaning.specs.Closing.{too_high, closing_refusal}
 use Rattle.meaning.specs.Restated.Years.{Between, CurveValid, IndexValid, OfHistory, SomeYear}
 use Rattle.meaning.specs.Restated.Close.{HighOrigin, High, CloseWords}
-use Rattle.meaning.specs.Restated.Points.{ByDefault, SourceWords}
+use Rattle.meaning.specs.Restated.Points.{Nearest, RoundWords, ByDefault, SourceWords}
 use Rattle.meaning.proofs.Pins.Dates.{date_words}
 use Rattle.meaning.proofs.Pins.Years.{valid_words, some_intervals}
 use Rattle.meaning.proofs.Pins.Cases.{some_history}
 use Rattle.meaning.proofs.Pins.Close.{some_places, closing_words}
+
+-- ---- rounding
+nearest_is : (q : Fraction) (n : ℕ) → 0 < q.den → (rounded q ≡ n) ↔ Nearest q n
+unfolding rounded
+nearest_is q n p = (
+  λ e. subst (Nearest q) e (omega (arith, half_up_above q.num q.den p), omega (arith, half_up_below q.num q.den p)),
+  λ h. half_up_only q.num q.den n (omega (arith, h.0)) (omega (arith, h.1)),
+)
+
+pub round_words : RoundWords
+unfolding rounded half_up
+round_words = record { nearest = nearest_is; half = refl; less = refl }
 
 -- ---- sizes
 -- a number that is not more is at most

@@ -1,13 +1,14 @@
 -- Never opened, open, refused and closed, and what each call leaves, in words (document 01, Calls and Stops that come from the state).
 use Rattle.std.specs.Prelude.{◌≡◌, ◌≢◌, ◌⊎◌, ℕ, ◌+◌, ◌≤◌, T}
 use Rattle.std.proofs.Math.Option.{some, none}
-use Rattle.meaning.specs.Filing.{Filing}
-use Rattle.meaning.specs.Line.{Line}
+use Rattle.lists.specs.Lists.{Each}
+use Rattle.meaning.specs.Filing.{Filing, no_meter, site, estimated, reading}
+use Rattle.meaning.specs.Line.{Line, Tag}
 use Rattle.meaning.specs.Refusals.{Reason, number_of, refusal}
 use Rattle.meaning.specs.Level.{lowest_rate, report_of, curve_of}
 use Rattle.meaning.specs.Closing.{CloseReason, close_number, closing_refusal}
 use Rattle.meaning.specs.Blocks.{Blocks, sizes_fit, fresh_blocks}
-use Rattle.meaning.specs.Record.{State, unopened, open_state, refused_state, closed_state, Rec, never_opened, fresh_rec, rec_fits, contents_fit, before_of, filing_of}
+use Rattle.meaning.specs.Record.{State, unopened, open_state, refused_state, closed_state, Rec, last_of, never_opened, fresh_rec, rec_fits, contents_fit, before_of, filing_of}
 use Rattle.meaning.specs.Calls.{Out, out, accepted, refused, reported, with_curve, opening_of, line_of, close_of}
 use Rattle.meaning.specs.Restated.Years.{OfHistory, SomeYear}
 
@@ -65,6 +66,26 @@ pub record CallWords : Type 0 where
       × ((close_of s w).blocks ≡ with_curve w (curve_of (filing_of s w)))
   -- after a close no record is open
   pub after_close : (s : Rec) (w : Blocks) → FitClose s w → (close_of s w).after.state ≢ open_state
+
+-- what an opening leaves: points and curve missing, profiles and daily sums 0, the readings fresh; no line, no site, no date, no number by year
+pub record FreshWords : Type 0 where
+  pub near : Each (λ v. v ≡ 4294967295) fresh_blocks.near
+  pub far : Each (λ v. v ≡ 4294967295) fresh_blocks.far
+  pub slots : Each (λ v. v ≡ 0) fresh_blocks.slots
+  pub daily : Each (λ v. v ≡ 0) fresh_blocks.daily
+  pub listed : Each (λ r. r ≡ reading 0 0 estimated) fresh_blocks.readings
+  pub curve : Each (λ v. v ≡ 18446744073709551615) fresh_blocks.curve
+  pub sizes : T (sizes_fit fresh_blocks)
+  pub count : fresh_rec.count ≡ 0
+  pub last : fresh_rec.last ≡ 0
+  pub site : fresh_rec.site ≡ site 0 0 no_meter 0
+  pub readings : fresh_rec.readings ≡ 0
+  pub last_index : fresh_rec.last_index ≡ 0
+  pub lasts : (t : Tag) → last_of fresh_rec.lasts t ≡ 0
+  pub profile_dates : Each (λ n. n ≡ 0) fresh_rec.tallies.profile_dates
+  pub daily_dates : Each (λ n. n ≡ 0) fresh_rec.tallies.daily_dates
+  pub breaks : Each (λ n. n ≡ 0) fresh_rec.tallies.breaks
+  pub rates : Each (λ n. n ≡ 0) fresh_rec.tallies.rates
 
 -- T is 1000 or the rate of a history year, and at most each
 pub record LowestWords : Type 0 where

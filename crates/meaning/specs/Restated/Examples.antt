@@ -1,19 +1,19 @@
--- The worked examples p1 to p9 as rows of one table, about the definitions that the close uses (document 01, Reckoned examples).
+-- The worked examples p1 to p9 as rows of one table, about the definitions that the close uses: p4 to p8 take each year by its case (document 01,
+-- Reckoned examples).
 use Rattle.std.specs.Prelude.{Bool, true, false, ◌&&◌, not, cond, List, [], ◌∷◌, ℕ, eqb, ltb}
 use Rattle.std.proofs.Math.Option.{Option, some, none}
 use Rattle.note.specs.Coefficients.{ca_of}
 use Rattle.meaning.specs.Filing.{Filing, Site, site, curve_meter, index_meter, Reading, reading, real}
 use Rattle.meaning.specs.Validity.{curve_valid}
-use Rattle.meaning.specs.Cases.{case2}
-use Rattle.meaning.specs.Points.{own, profiled_at, source_by, default_at, rounded_point, with_rate}
+use Rattle.meaning.specs.Points.{source_at, rounded_point, with_rate}
 
--- a filing with no rate; each profile value is 10,000 and each daily sum 480,000
+-- a filing with no rate; each profile value is 10,000, and the one daily sum above 0 is that of 1 January 2017, 480,000
 unfoldable pub plain : Site → (ℕ → Bool) → (ℕ → ℕ → ℕ → Option ℕ) → List Reading → Filing
 plain s breaks points rs = record {
   site = s;
   point = points;
   profile = λ y w h. 10000;
-  daily = λ y p. 480000;
+  daily = λ y p. cond (eqb y 2017 && eqb p 0) 480000 0;
   readings = rs;
   broken = breaks;
   rate = λ y. none;
@@ -43,9 +43,13 @@ one_less = plain wind (λ y. false) (λ y w h. cond (ltb h 16 && not (eqb w 10 &
 unfoldable pub only2020 : Filing
 only2020 = plain wind (λ y. not (eqb y 2020)) (λ y w h. cond (eqb y 2020) (some 1000000) none) []
 
--- readings on 1 and 2 January 2017, so many Wh apart
-unfoldable pub one_day : ℕ → Filing
-one_day e = plain solar (λ y. false) (λ y w h. none) (reading 366 0 real ∷ reading 367 e real ∷ [])
+-- readings on 1 January 2017 and 2018, so many Wh apart: 2017 has a valid index
+unfoldable pub year_of_energy : ℕ → Filing
+year_of_energy e = plain solar (λ y. false) (λ y w h. none) (reading 366 0 real ∷ reading 732 e real ∷ [])
+
+-- no readings: no year has a valid index
+unfoldable pub unread : Filing
+unread = plain solar (λ y. false) (λ y w h. none) []
 
 -- ---- the table
 pub data ExampleValue : Type 0 where
@@ -72,14 +76,14 @@ examples =
     row (validity (curve_valid sixteen 2019)) valid
     ∷ row (validity (curve_valid one_less 2019)) not_valid
     ∷ row (validity (curve_valid sixteen 2017)) valid
-    -- p4, p5: case 2, rebuilt from 2020, on winter places that are peak days of 2017 and 2018
-    ∷ row (power (rounded_point (source_by case2 only2020 2017 2 0))) (in_mw 873636364)
-    ∷ row (power (rounded_point (source_by case2 only2020 2018 25 0))) (in_mw 887272727)
+    -- p4, p5: rebuilt from 2020, on winter places that are peak days of 2017 and 2018
+    ∷ row (power (rounded_point (source_at only2020 2017 2 0))) (in_mw 873636364)
+    ∷ row (power (rounded_point (source_at only2020 2018 25 0))) (in_mw 887272727)
     -- p6, p7: 1 January 2017 profiled from E 48,000 and E 1
-    ∷ row (power (rounded_point (own (profiled_at (one_day 48000) 2017 0 0)))) (in_mw 2000000)
-    ∷ row (power (rounded_point (own (profiled_at (one_day 1) 2017 0 0)))) (in_mw 42)
+    ∷ row (power (rounded_point (source_at (year_of_energy 48000) 2017 0 0))) (in_mw 2000000)
+    ∷ row (power (rounded_point (source_at (year_of_energy 1) 2017 0 0))) (in_mw 42)
     -- p8: default power of 2017
-    ∷ row (power (rounded_point (default_at (one_day 0) 2017 0 0))) (in_mw 142259110)
+    ∷ row (power (rounded_point (source_at unread 2017 0 0))) (in_mw 142259110)
     -- p9
     ∷ row (in_mw (with_rate (some 500) 880000000)) (in_mw 1760000000)
     ∷ []

@@ -4,11 +4,12 @@ use Rattle.std.proofs.Math.Option.{some, none}
 use Rattle.lists.specs.Lists.{keep, Some}
 use Rattle.lists.specs.Restated.{CountIs}
 use Rattle.calendar.specs.Spans.{position_of}
+use Rattle.note.specs.Coefficients.{ca_of}
 use Rattle.text.specs.Fields.{field_at}
 use Rattle.meaning.specs.Filing.{curve_meter, index_meter, real, corrected, estimated, Reading, reading}
 use Rattle.meaning.specs.Line.{Line, Tag, S, C, X, D, P, B, R, E, is, tag_of, number_at, year_on, month_on, day_on, site_on, kind_of, winter_on, place_on}
 use Rattle.meaning.specs.Refusals.{Reason, number_of}
-use Rattle.meaning.specs.File.{site_in, axis_in, refusal_at, point_in, profile_in, daily_in, readings_in, broken_in, rate_in, dates_in, ended_in, filing_in}
+use Rattle.meaning.specs.File.{axis_in, refusal_at, filing_in}
 use Rattle.meaning.specs.Sheet.{outcome_of, refused_at, closing_of}
 use Rattle.meaning.specs.Restated.Lines.{Dash}
 
@@ -29,23 +30,30 @@ pub record LookWords : Type 0 where
   -- a place's point is what some C line gives it, and - gives none
   pub point :
       (ls : List Line) → AllAccepted ls → (y w h v : ℕ)
-      → (point_in ls y w h ≡ some v) ↔ ((h < 20) × Some (λ l. Names C y w l × ((¬ Dash (field_at l (4 + h))) × (number_at l (4 + h) ≡ v))) ls)
-  pub profile : (ls : List Line) → AllAccepted ls → (y w h v : ℕ) → h < 20 → Some (λ l. Names P y w l × (number_at l (4 + h) ≡ v)) ls → profile_in ls y w h ≡ v
-  pub no_profile : (ls : List Line) (y w h : ℕ) → (¬ Some (Names P y w) ls) → profile_in ls y w h ≡ 0
+      → ((filing_in ls).point y w h ≡ some v) ↔ ((h < 20) × Some (λ l. Names C y w l × ((¬ Dash (field_at l (4 + h))) × (number_at l (4 + h) ≡ v))) ls)
+  pub profile :
+      (ls : List Line) → AllAccepted ls → (y w h v : ℕ) → h < 20 → Some (λ l. Names P y w l × (number_at l (4 + h) ≡ v)) ls
+      → (filing_in ls).profile y w h ≡ v
+  pub no_profile : (ls : List Line) (y w h : ℕ) → (¬ Some (Names P y w) ls) → (filing_in ls).profile y w h ≡ 0
   pub daily :
-      (ls : List Line) → AllAccepted ls → (y p v : ℕ) → Some (λ l. ((tag_of l ≡ D) × ((year_on l ≡ y) × (place_on l ≡ p))) × (number_at l 4 ≡ v)) ls → daily_in ls y p ≡ v
-  pub no_daily : (ls : List Line) (y p : ℕ) → (¬ Some (λ l. (tag_of l ≡ D) × ((year_on l ≡ y) × (place_on l ≡ p))) ls) → daily_in ls y p ≡ 0
-  -- the site is what the S line says
-  pub site : (ls : List Line) → AllAccepted ls → (l : Line) → Some (λ k. (tag_of k ≡ S) × (k ≡ l)) ls → site_in ls ≡ site_on l
-  pub rate : (ls : List Line) → AllAccepted ls → (y r : ℕ) → (rate_in ls y ≡ some r) ↔ Some (λ l. ((tag_of l ≡ R) × (year_on l ≡ y)) × (number_at l 2 ≡ r)) ls
-  pub broken : (ls : List Line) (y : ℕ) → T (broken_in ls y) ↔ Some (λ l. (tag_of l ≡ B) × (year_on l ≡ y)) ls
-  pub ended : (ls : List Line) → T (ended_in ls) ↔ Some (λ l. tag_of l ≡ E) ls
-  pub dates : (t : Tag) (ls : List Line) (y : ℕ) → CountIs (λ l. (tag_of l ≡ t) × (year_on l ≡ y)) ls (dates_in t ls y)
+      (ls : List Line) → AllAccepted ls → (y p v : ℕ) → Some (λ l. ((tag_of l ≡ D) × ((year_on l ≡ y) × (place_on l ≡ p))) × (number_at l 4 ≡ v)) ls
+      → (filing_in ls).daily y p ≡ v
+  pub no_daily : (ls : List Line) (y p : ℕ) → (¬ Some (λ l. (tag_of l ≡ D) × ((year_on l ≡ y) × (place_on l ≡ p))) ls) → (filing_in ls).daily y p ≡ 0
+  -- the site is what the S line says, and CA is its filière's
+  pub site : (ls : List Line) → AllAccepted ls → (l : Line) → Some (λ k. (tag_of k ≡ S) × (k ≡ l)) ls → (filing_in ls).site ≡ site_on l
+  pub ca : (ls : List Line) (y : ℕ) → (filing_in ls).ca y ≡ ca_of y (filing_in ls).site.filiere
+  pub rate :
+      (ls : List Line) → AllAccepted ls → (y r : ℕ)
+      → ((filing_in ls).rate y ≡ some r) ↔ Some (λ l. ((tag_of l ≡ R) × (year_on l ≡ y)) × (number_at l 2 ≡ r)) ls
+  pub broken : (ls : List Line) (y : ℕ) → T ((filing_in ls).broken y) ↔ Some (λ l. (tag_of l ≡ B) × (year_on l ≡ y)) ls
+  pub ended : (ls : List Line) → T (filing_in ls).ended ↔ Some (λ l. tag_of l ≡ E) ls
+  pub profile_dates : (ls : List Line) (y : ℕ) → CountIs (λ l. (tag_of l ≡ P) × (year_on l ≡ y)) ls ((filing_in ls).profile_dates y)
+  pub daily_dates : (ls : List Line) (y : ℕ) → CountIs (λ l. (tag_of l ≡ D) × (year_on l ≡ y)) ls ((filing_in ls).daily_dates y)
   -- the readings are those of the X lines, in their order
-  pub readings : (ls : List Line) → readings_in ls ≡ map (reading_of ls) (keep (λ (l : Line). is X (tag_of l)) ls)
+  pub readings : (ls : List Line) → (filing_in ls).readings ≡ map (reading_of ls) (keep (λ (l : Line). is X (tag_of l)) ls)
   -- no line, no point and no reading
-  pub no_point : (y w h : ℕ) → point_in [] y w h ≡ none
-  pub no_reading_lem : readings_in [] ≡ []
+  pub no_point : (y w h : ℕ) → (filing_in []).point y w h ≡ none
+  pub no_reading_lem : (filing_in []).readings ≡ []
 
 -- what S says, by its fields
 pub record SiteWords (l : Line) : Type 0 where

@@ -6,6 +6,7 @@ use Rattle.lists.specs.Restated.{CountIs, Adjacent}
 use Rattle.calendar.specs.Places.{has_winter_date}
 use Rattle.note.specs.Peaks.{peak_days, peak_count}
 use Rattle.note.specs.Coefficients.{theta}
+use Rattle.rounding.specs.Points.{Fraction, over, rounded}
 use Rattle.meaning.specs.Filing.{Filing, Reading, history_of, history_list}
 use Rattle.meaning.specs.Validity.{energy_of, total_of}
 use Rattle.meaning.specs.Cases.{case_m, case4, case6, case_of}
@@ -39,6 +40,17 @@ pub record CurveWords : Type 0 where
   pub apart :
       (F : Filing) → closing_refusal F ≡ none → ((y w h v : ℕ) → F.point y w h ≡ some v → v ≤ 100000000)
       → ((y r : ℕ) → F.rate y ≡ some r → 10 ≤ r) → Each (λ q. point_at q ≢ some missing_entry) (all_places F)
+
+-- ---- rounding to nearest, half up
+-- a fraction is at least n - 1/2 and less than n + 1/2
+abbrev pub Nearest : Fraction → ℕ → Type 0
+Nearest q n = (2 * (n * q.den) ≤ 2 * q.num + q.den) × (2 * q.num < 2 * (n * q.den) + q.den)
+
+pub record RoundWords : Type 0 where
+  pub nearest : (q : Fraction) (n : ℕ) → 0 < q.den → (rounded q ≡ n) ↔ Nearest q n
+  -- one half, and a little less
+  pub half : rounded (over 1 2) ≡ 1
+  pub less : rounded (over 499 1000) ≡ 0
 
 -- ---- where points come from
 -- the source of a default-power point: PS, theta, profile value, CA of the year, N, and CA of the N history years together, which come so many years after one

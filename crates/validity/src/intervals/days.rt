@@ -5,6 +5,7 @@ ghost use Rattle.validity.specs.Days.{energies_of, totals_of};
 ghost use Rattle.validity.specs.Steps.{first_place, filled};
 
 use crate::columns::Counted;
+use rounding::Energy;
 
 // The number of places of the axis.
 const AXIS: usize = 4392;
@@ -17,12 +18,14 @@ fn total(days: &[u32]) -> u64
     days.iter().map(|day| u64::from(*day)).sum()
 }
 
-// Writes v at the places from a to the one before b. A function of its own, since its four calls share one proof.
-fn fill(places: &mut [u64; 4392], a: usize, b: usize, v: u64)
+// Writes v at the places from a to the one before b: energies or totals. A loop, since after the slice's own `fill` a proof knows clones alone.
+fn fill<T: Copy>(places: &mut [T; 4392], a: usize, b: usize, v: T)
     requires { (a ≤ b) × (b ≤ 4392) × (length places.old ≡ 4392) }
     ensures { places.new ≡ filled places.old a b v }
 {
-    places[a..b].fill(v);
+    for p in a..b {
+        places[p] = v;
+    }
 }
 
 impl Counted<'_> {
@@ -36,24 +39,29 @@ impl Counted<'_> {
 
     // Fills in, at each position, the energy of the interval around it, which is the difference of its two readings, and its total of daily sums; 0
     // where there is no interval.
-    pub fn by_position(&self, daily: &[u32], energies: &mut [u64; 4392], totals: &mut [u64; 4392])
+    pub fn by_position(
+        &self,
+        daily: &[u32],
+        energies: &mut [Energy; 4392],
+        totals: &mut [u64; 4392],
+    )
         requires rising { Rising self.now.positions.now self.now.n × NonDecreasing self.now.indexes.now self.now.n }
         requires daily_len { (length daily.now ≡ 4392) × (length energies.old ≡ 4392) × (length totals.old ≡ 4392) }
         ensures energies { energies.new ≡ energies_of self.now.positions.now self.now.indexes.now self.now.n }
         ensures totals { totals.new ≡ totals_of self.now.positions.now daily.now self.now.n }
     {
         let mut at = self.first_place();
-        fill(energies, 0, at, 0);
+        fill(energies, 0, at, Energy(0));
         fill(totals, 0, at, 0);
         for i in 0..self.interval_count() {
             let next = self.position(i + 1);
-            let energy = self.index(i + 1) - self.index(i);
+            let energy = Energy(self.index(i + 1).0 - self.index(i).0);
             let total = total(&daily[at..next]);
             fill(energies, at, next, energy);
             fill(totals, at, next, total);
             at = next;
         }
-        fill(energies, at, AXIS, 0);
+        fill(energies, at, AXIS, Energy(0));
         fill(totals, at, AXIS, 0);
     }
 }

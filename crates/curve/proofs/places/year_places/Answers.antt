@@ -1,21 +1,24 @@
 use mathlib.Core.Path.{◌≡◌, ap, sym, subst}
-use mathlib.Core.Bool.{false}
 use mathlib.Core.List.{List}
 use Prim.Native.Nat.{ℕ, ◌+◌, ◌*◌, ◌≤◌, ◌<◌}
 use native.Mathlib.Omega.{arith}
+use lib.Dec.{T}
 use lib.ListN.{length, get_or}
 use Rattle.std.proofs.Common.{rules, tests}
 use Rattle.note.specs.Peaks.{peak_count, peak_days}
-use Rattle.note.proofs.PeakDays.{days_length, most_days, in_winter}
+use Rattle.calendar.specs.Places.{has_winter_date}
+use Rattle.note.proofs.PeakDays.{days_length, most_days, in_winter, has_date_lem}
 use Rattle.meaning.specs.Points.{CurvePlace}
+use Rattle.history.specs.declared.YearOnDay.{YearOnDay}
 use Rattle.history.specs.Cases.{case_view}
+use Rattle.history.specs.Years.{no_year}
 use Rattle.points.specs.Sources.{Day}
 use Rattle.points.specs.Fits.{DayFits}
-use Rattle.curve.specs.PlaceSums.{place_sum, plus}
+use Rattle.curve.specs.PlaceSums.{nothing, plus}
 use Rattle.curve.specs.Files.{file_view}
 use Rattle.curve.specs.YearPlaces.{day_in, places_on, places_in}
 use Rattle.curve.specs.PlaceFits.{Entered}
-use Rattle.curve.proofs.Walking.{Walked, not_begun, walk_on, walk_over, entered_more, days_left, days_all, days_on, days_over, hours_length, day_fits_lem, day_is}
+use Rattle.curve.proofs.Walking.{Walked, not_begun, walk_on, walk_over, entered_more, days_left, days_all, days_on, days_over, hours_length, day_fits_lem, own_index, day_is}
 use Rattle.curve.proofs.places.year_places.Goals as goal
 
 -- the year's peak days as the code has them: how many, and the j-th
@@ -27,6 +30,10 @@ day_at y j ds e h =
     let at : get_or ds j 0 ≡ get_or (peak_days y) j 0 = ap (λ (l : List ℕ). get_or l j 0) e in
     (at, omega (arith, at, in_winter y j (omega (arith, (count_is y ds e).0))))
 
+-- it is a date of its year
+dated : (y j : ℕ) (ds : List ℕ) → ds ≡ peak_days y → j < length ds → T (has_winter_date y (get_or ds j 0))
+dated y j ds e h = rw e (has_date_lem y j (omega (arith, (count_is y ds e).0)))
+
 pub loop-j-init : goal.loop-j-init
 loop-j-init c =
     let a = c.args in
@@ -34,7 +41,7 @@ loop-j-init c =
     let l = file_view a.site_file.now.file.now a.site_file.now.cas.now in
     let x = case_view a.target.case in
     let all = places_in b l x a.target.rate a.target.k in
-    subst (λ (qs : List CurvePlace). Walked 0 (440 * a.target.k) all qs a.curve.now a.curve.now (440 * a.target.k + 0) (place_sum false 0 0)) (sym (days_all b l x a.target.rate a.target.k))
+    subst (λ (qs : List CurvePlace). Walked 0 (440 * a.target.k) all qs a.curve.now a.curve.now (440 * a.target.k + 0) nothing) (sym (days_all b l x a.target.rate a.target.k))
     (not_begun (440 * a.target.k) all a.curve.now (440 * a.target.k + 0) (omega arith))
 
 pub years_on-years-requires : goal.years_on-years-requires
@@ -61,12 +68,18 @@ invariant_of-day c =
 
 pub half_hours-d-requires : goal.half_hours-d-requires
 half_hours-d-requires c =
+    let b = c.args.site_file.now.site.now in
+    let l = file_view c.args.site_file.now.file.now c.args.site_file.now.cas.now in
+    let w = get_or c.peak_days-days.result.now c.loop-j.j 0 in
+    let k = c.args.target.k in
     record {
       rate_fits = c.requires.rate_fits;
       k_lt_count = (
         c.requires.k_lt_count,
         omega (arith, c.loop-j-test.true, count_is _ _ c.peak_days-days.ensures, c.args.site_file.now.site_fits.count, c.requires.k_lt_count),
       );
+      own_index = λ u. subst (λ (ys : List YearOnDay). T (get_or ys k no_year).is_donor) (sym c.years_on-years.ensures)
+          (own_index b.first l w k (omega (arith, c.args.site_file.now.site_fits.count, c.requires.k_lt_count)) (c.requires.own_index u) (dated (b.first + k) c.loop-j.j _ c.peak_days-days.ensures c.loop-j-test.true));
     }
 
 pub plus-t-requires : goal.plus-t-requires

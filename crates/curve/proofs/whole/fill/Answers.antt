@@ -8,13 +8,13 @@ pub cas_from-cas-requires : goal.cas_from-cas-requires
 unfolding site_factors_of
 cas_from-cas-requires c =
     let s = c.args.site in
-    rw c.history-history.ensures (basis_fits s.al s.filiere s.ps c.requires.site_fits.0).first
+    rw c.history-history.ensures (basis_fits s.al s.filiere s.ps.0 c.requires.site_fits.0).first
 
 pub cas_sum-requires : goal.cas_sum-requires
 unfolding site_factors_of
 cas_sum-requires c =
     let s = c.args.site in
-    (rw c.history-history.ensures (basis_fits s.al s.filiere s.ps c.requires.site_fits.0).count, rw c.cas_from-cas.ensures (cas_most c.history-history.result.first s.filiere))
+    (rw c.history-history.ensures (basis_fits s.al s.filiere s.ps.0 c.requires.site_fits.0).count, rw c.cas_from-cas.ensures (cas_most c.history-history.result.first s.filiere))
 
 pub invariant_of-site_file : goal.invariant_of-site_file
 unfolding site_factors_of
@@ -23,9 +23,9 @@ invariant_of-site_file c =
     let l = c.args.file.now in
     let e = c.cas_sum.ensures.is ∙ ap (cas_sum c.history-history.result.count) c.cas_from-cas.ensures in
     record {
-      site_fits = rw (e, c.theta.ensures, c.history-history.ensures) (basis_fits s.al s.filiere s.ps c.requires.site_fits.0);
+      site_fits = rw (e, c.theta.ensures, c.history-history.ensures) (basis_fits s.al s.filiere s.ps.0 c.requires.site_fits.0);
       fits = rw (c.cas_from-cas.ensures, e, c.theta.ensures, c.history-history.ensures)
-          (held_fits s.al s.filiere s.ps c.requires.site_fits.0 l.blocks.now.near.now l.blocks.now.far.now l.blocks.now.slots.now l.energies.now l.totals.now l.valid.now.curves l.valid.now.indexes c.args.rates.now c.requires.site_fits.1);
+          (held_fits s.al s.filiere s.ps.0 c.requires.site_fits.0 l.blocks.now.near.now l.blocks.now.far.now l.blocks.now.slots.now l.energies.now l.totals.now l.valid.now.curves l.valid.now.indexes c.args.rates.now c.requires.site_fits.1 c.requires.index_years.nonzero);
     }
 
 pub returns : goal.returns

@@ -9,5 +9,5 @@ use Rattle.line_checks.proofs.value_ranges.points_outside.Goals as goal
 pub returns : goal.returns
 unfolding is_point_outside
 returns c =
-    any_from_yields_List is_point_outside _ _ _ c.any.ensures.ran (YieldsList-from_slice c.args.codes.now c.iter.ensures.rest) (λ x b q k. search (rules, tests))
-    ∙ any_listed is_point_outside c.args.codes.now
+    any_from_yields_List is_point_outside _ _ _ c.any.ensures.ran (YieldsList-from_slice c.args.points.now c.iter.ensures.rest) (λ x b q k. search (rules, tests))
+    ∙ any_listed is_point_outside c.args.points.now

@@ -1,18 +1,7 @@
 use mathlib.Core.Path.{◌≡◌}
-use mathlib.Core.Bool.{Bool}
-use Prim.Native.Nat.{◌-◌, ◌≤◌}
 use lib.ListN.{length}
-use Rattle.line_form.specs.Fields.{EachLine}
-use Rattle.line_form.specs.Rows.{Codes}
 use Rattle.line_form.proofs.Rows.{RowSoFar}
 use Rattle.line_form.proofs.values.read_row.Given as goal
 
-abbrev pub invariant-loop-k : goal.invariant-loop-k
-invariant-loop-k g l = record {
-  few : l.k ≤ 20;
-  all_places : length l.codes ≡ 20;
-  read : (dashes : Bool) → Codes (goal.F-post g l.code_of) dashes → EachLine l.fields (λ t. RowSoFar dashes t l.codes l.k);
-}
-
-abbrev pub decreases-loop-k : goal.decreases-loop-k
-decreases-loop-k g l = 20 - l.k
+abbrev pub invariant-loop-h : goal.invariant-loop-h
+invariant-loop-h g l = record { all_places : length l.values ≡ 20; so_far : RowSoFar g.V.Value.form g.V.Value.value_in l.after_date l.rest l.values l.h }

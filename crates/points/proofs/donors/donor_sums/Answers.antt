@@ -22,7 +22,7 @@ returns-in_err-donor g c =
     let e = err_is c.from_residual.result c.from_residual.ensures.0 in
     record {
       fit = rw e tt;
-      are = λ given h. rw e (gather_high c.args.n c.args.cas.now given k c.loop-k.sums (record {}) c.loop-k-test.true (h k (Err (record {})) c.loop-k-test.true c.in_err-donor.ensures).is (c.loop-k.invariant.are given h));
+      are = λ given h. rw e (gather_high c.args.n c.args.cas.now given k c.loop-k.sums (record {}) c.loop-k-test.true (h k (Err (record {})) c.loop-k-test.true c.in_err-donor.ensures) (c.loop-k.invariant.are given h));
     }
 
 pub loop-k-preserved : goal.loop-k-preserved
@@ -33,7 +33,7 @@ loop-k-preserved g c =
     let ca = get_or c.args.cas.now k 0 in
     record {
       fit = rw c.with_donor-sums.ensures (fit_on k c.loop-k.sums ca p c.loop-k.invariant.fit (c.requires.bounds.1 k) (c.requires.fits k (Ok p) t c.in_ok-donor.ensures));
-      are = λ given h. rw c.with_donor-sums.ensures (gather_on c.args.n c.args.cas.now given k c.loop-k.sums p t (h k (Ok p) t c.in_ok-donor.ensures).is (c.loop-k.invariant.are given h));
+      are = λ given h. rw c.with_donor-sums.ensures (gather_on c.args.n c.args.cas.now given k c.loop-k.sums p t (h k (Ok p) t c.in_ok-donor.ensures) (c.loop-k.invariant.are given h));
     }
 
 pub returns : goal.returns

@@ -12,8 +12,8 @@ returns c =
     let rs = c.args.readings.now in
     let p : c.from_fn.result ≡ map (λ r. r.position) (first_readings rs) =
     made_by _ (λ i. (get_or rs i fresh).position) 0 _ 600 _ c.from_fn.ensures.items (λ x b r q k. search (rules, tests)) ∙ sym (map_tab (λ r. r.position) 600 0 (λ i. get_or rs i fresh)) in
-    let x : c.from_fn-2.result ≡ map (λ r. r.count) (first_readings rs) =
-    made_by _ (λ i. (get_or rs i fresh).count) 0 _ 600 _ c.from_fn-2.ensures.items (λ x b r q k. search (rules, tests)) ∙ sym (map_tab (λ r. r.count) 600 0 (λ i. get_or rs i fresh)) in
+    let x : c.from_fn-2.result ≡ map (λ r. r.count.0) (first_readings rs) =
+    made_by _ (λ i. (get_or rs i fresh).count.0) 0 _ 600 _ c.from_fn-2.ensures.items (λ x b r q k. search (rules, tests)) ∙ sym (map_tab (λ r. r.count.0) 600 0 (λ i. get_or rs i fresh)) in
     let l : c.from_fn-3.result ≡ map letter (first_readings rs) =
     made_by _ (λ i. letter (get_or rs i fresh)) 0 _ 600 _ c.from_fn-3.ensures.items (λ x b r q k. search (rules, tests)) ∙ sym (map_tab letter 600 0 (λ i. get_or rs i fresh)) in
     λ i. record { positions = p i; indexes = x i; kinds = l i }

@@ -21,6 +21,6 @@ unfolding sheet_text
 returns-in-Reported c =
     let v = c.in-Reported in
     rw v.is (record {
-      sheet = adds_then (rw (level_is v.al v.filiere v.level v.points) at c.put_line-in-Reported.ensures) c.put_rows.ensures.rows;
-      short = omega (arith, length-append (level_text v.al v.filiere v.level v.points) (rows_text c.args.years), level_length v.al v.filiere v.level v.points (omega arith) (omega arith) (omega arith) (omega arith), c.put_rows.ensures.short);
+      sheet = adds_then (rw (level_is v.al v.filiere v.level.0 v.points) at c.put_line-in-Reported.ensures) c.put_rows.ensures.rows;
+      short = omega (arith, length-append (level_text v.al v.filiere v.level.0 v.points) (rows_text c.args.years), level_length v.al v.filiere v.level.0 v.points (omega arith) (omega arith) (omega arith) (omega arith), c.put_rows.ensures.short);
     })

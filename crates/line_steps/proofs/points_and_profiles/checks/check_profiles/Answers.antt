@@ -4,14 +4,14 @@ use Rattle.line_steps.proofs.InWinter.{profiles_told}
 use Rattle.line_steps.proofs.points_and_profiles.checks.check_profiles.Goals as goal
 
 pub returns-in_err-read : goal.returns-in_err-read
-returns-in_err-read c l w k =
+returns-in_err-read c =
     let p = err_from_is_err_and c.from_residual.result c.from_residual.ensures.1 in
-    rw (p.1, p.2, profiles_told l c.args.progress.now.last c.args.progress.now.site.al c.args.progress.now.site.filiere c.args.progress.now.lasts.p k, sym (rw (c.is_misplaced-misplaced.ensures, c.read_profiles.ensures l w) at c.in_order.ensures) ∙ c.in_err-read.was)
+    rw (p.1, p.2, profiles_told c.args.line.now c.args.progress.now.last c.args.progress.now.site.al c.args.progress.now.site.filiere c.args.progress.now.lasts.p c.requires, sym (rw (c.is_misplaced-misplaced.ensures, c.read_profiles.ensures) at c.in_order.ensures) ∙ c.in_err-read.was)
 
 pub returns-in_err-date : goal.returns-in_err-date
-returns-in_err-date c l w k =
+returns-in_err-date c =
     let p = err_from_is_err_and c.from_residual-in_err-date.result c.from_residual-in_err-date.ensures.1 in
-    rw (p.1, p.2, profiles_told l c.args.progress.now.last c.args.progress.now.site.al c.args.progress.now.site.filiere c.args.progress.now.lasts.p k, sym (rw (c.is_misplaced-misplaced.ensures, c.read_profiles.ensures l w) at c.in_order.ensures) ∙ c.in_ok-read.was, sym (rw (c.history-years.ensures, c.profiles_outside-above.ensures) at c.check_winter.ensures) ∙ c.in_err-date.was)
+    rw (p.1, p.2, profiles_told c.args.line.now c.args.progress.now.last c.args.progress.now.site.al c.args.progress.now.site.filiere c.args.progress.now.lasts.p c.requires, sym (rw (c.is_misplaced-misplaced.ensures, c.read_profiles.ensures) at c.in_order.ensures) ∙ c.in_ok-read.was, sym (rw (c.history-years.ensures, c.profiles_outside-above.ensures) at c.check_winter.ensures) ∙ c.in_err-date.was)
 
 pub returns : goal.returns
-returns c l w k = rw (profiles_told l c.args.progress.now.last c.args.progress.now.site.al c.args.progress.now.site.filiere c.args.progress.now.lasts.p k, sym (rw (c.is_misplaced-misplaced.ensures, c.read_profiles.ensures l w) at c.in_order.ensures) ∙ c.in_ok-read.was, sym (rw (c.history-years.ensures, c.profiles_outside-above.ensures) at c.check_winter.ensures) ∙ c.in_ok-date.was)
+returns c = rw (profiles_told c.args.line.now c.args.progress.now.last c.args.progress.now.site.al c.args.progress.now.site.filiere c.args.progress.now.lasts.p c.requires, sym (rw (c.is_misplaced-misplaced.ensures, c.read_profiles.ensures) at c.in_order.ensures) ∙ c.in_ok-read.was, sym (rw (c.history-years.ensures, c.profiles_outside-above.ensures) at c.check_winter.ensures) ∙ c.in_ok-date.was)

@@ -1,17 +1,21 @@
-use mathlib.Core.Path.{◌≡◌, ap, refl, sym, ◌∙◌}
+use mathlib.Core.Path.{◌≡◌, ap, ◌∙◌}
+use Prim.Native.Nat.{ℕ}
 use native.Mathlib.Omega.{arith}
-use Prim.Native.Nat.{ℕ, ◌-◌}
-use lib.ListN.{replicate, length-replicate}
-use Rattle.std.proofs.Common.{rules, tests}
-use Rattle.std.proofs.lemmas.Slice.{put_mid-paste}
-use borrow.Rule.Slice.PartMut.{mid_len}
+use lib.ListN.{set}
 use Rattle.validity.specs.Steps.{filled}
-use Rattle.validity.proofs.Fills.{filled_by}
+use Rattle.validity.proofs.Fills.{filled_none, filled_more}
 use Rattle.validity.proofs.intervals.days.fill.Goals as goal
 
+pub loop-p-init : goal.loop-p-init
+loop-p-init g c = filled_none c.args.places.now c.args.a c.args.v
+
+pub loop-p-preserved : goal.loop-p-preserved
+loop-p-preserved g c =
+    let a = c.args in
+    ap (λ ys. set ys c.loop-p.p a.v) c.loop-p.invariant ∙ filled_more a.places.now a.a a.v c.loop-p.p (omega arith) (omega arith)
+
 pub returns : goal.returns
-returns c =
-    let a = c.args.a in let b = c.args.b in let v = c.args.v in let xs = c.args.places.now in
-    let e : c.fill.new.self ≡ replicate (b - a) v = c.fill.ensures.after (λ y e. search (rules, tests)) ∙ ap (λ (n : ℕ). replicate n v) (mid_len a b xs (omega arith)) in
-    put_mid-paste a (b - a) xs c.fill.new.self (replicate (b - a) v) (b - a) e refl (sym (length-replicate (b - a) v))
-    ∙ filled_by xs a v (b - a) c.requires.2 (omega arith) ∙ ap (λ (p : ℕ). filled xs a p v) (omega arith)
+returns g c =
+    let a = c.args in
+    let e : c.loop-p.p ≡ a.b = omega arith in
+    c.loop-p.invariant ∙ ap (λ (p : ℕ). filled a.places.now a.a p a.v) e
