@@ -75,6 +75,10 @@ pub first_some : {A : Type 0} {P : A → Type 0} {a : A} {xs : List A} → First
 first_some (first_here h) = here h
 first_some (first_later n r) = there (first_some r)
 
+pub last_some : {A : Type 0} {P : A → Type 0} {a : A} {xs : List A} → Last P a xs → Some P xs
+last_some (last_here h e) = here h
+last_some (last_later r) = there (last_some r)
+
 -- what the first that passes says
 pub of_seek : {A B : Type 0} {P : A → Type 0} (p : A → Bool) (g : A → B) → ((x : A) → T (p x) ↔ P x) → (b : B) (xs : List A)
     → (seek (λ x. cond (p x) (some (g x)) none) xs ≡ some b) ↔ ((a : A) × First P a xs × (g a ≡ b))

@@ -1,5 +1,6 @@
 -- Laws of tests: what `and`, `or` and `not` say of their parts.
 use mathlib.Core.Path.{◌≡◌, refl, subst}
+use mathlib.Core.Logic.{◌⊎◌, inl, inr}
 use mathlib.Core.Bool.{Bool, true, false, not, ◌&&◌, ◌||◌, false≢true}
 use lib.Dec.{T}
 
@@ -49,9 +50,17 @@ and_assoc true b c = refl
 and_assoc false b c = refl
 
 -- ---- one of two
+pub or_left : (a b : Bool) → T a → T (a || b)
+or_left true b t = tt
+or_left false b t = elim t [ ]
+
 pub or_right : (a b : Bool) → T b → T (a || b)
 or_right true b t = tt
 or_right false b t = t
+
+pub or_case : (a b : Bool) → T (a || b) → T a ⊎ T b
+or_case true b t = inl tt
+or_case false b t = inr t
 
 pub or_true : (b : Bool) → (b || true) ≡ true
 or_true true = refl
@@ -82,6 +91,10 @@ or_split false b t = (tt, t)
 pub is_false : (b : Bool) → T (not b) → b ≡ false
 is_false true t = absurd t
 is_false false t = refl
+
+pub not_and : (a b : Bool) → (not a && b) ≡ true → (a ≡ false) × (b ≡ true)
+not_and true b h = absurd (false≢true h)
+not_and false b h = (refl, h)
 
 pub both_not : (b : Bool) → T b → T (not b) → ⊥
 both_not true t n = n

@@ -1,3 +1,5 @@
 pub mod LetterKinds
 pub mod Laws
+pub mod ColumnLengths
 pub mod Columned
+mod CopiedColumns

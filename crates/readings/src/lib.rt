@@ -6,7 +6,7 @@ mod reading_list; // the functions that touch the lent list: one reading stored,
 ghost use Rattle.std.specs.Prelude.{◌≡◌};
 ghost use Rattle.meaning.specs.Line.{kind_of_letter, is_kind};
 ghost use Rattle.meaning.specs.Blocks.{letter_of_kind};
-ghost use Rattle.readings.specs.Readings.{kind_view, Reads, fresh_readings};
+ghost use Rattle.readings.specs.Readings.{kind_view, kind_repr, Reads, fresh_readings};
 
 pub use reading_list::{columns_of, put, set_fresh};
 use rounding::Energy;
@@ -81,6 +81,14 @@ pub fn is_kind(letter: u8) -> bool
     ensures { result ≡ is_kind (kind_of_letter letter) }
 {
     Kind::try_from(letter).is_ok()
+}
+
+// The kind of a letter; one that is none of the three counts as E.
+#[tactic(auto, using(crate::proofs::LetterKinds::reads_kind))]
+pub fn kind_of(letter: u8) -> Kind
+    ensures { result ≡ kind_repr (kind_of_letter letter) }
+{
+    Kind::try_from(letter).unwrap_or(Kind::E)
 }
 
 // 600 fresh readings, as many as a file can have: the list before an opening.

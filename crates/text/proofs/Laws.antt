@@ -1,23 +1,32 @@
 -- Laws of fields: of a line split at its first tab, and the definitions in words.
-use mathlib.Core.Path.{◌≡◌, refl, ap, sym, ◌∙◌}
+use mathlib.Core.Path.{◌≡◌, refl, ap, sym, subst, ◌∙◌}
 use mathlib.Core.Logic.{◌↔◌, ◌⊎◌, inl, inr, ⊎_elim}
 use mathlib.Core.Bool.{Bool, true, false, not, ◌&&◌, ◌||◌, cond}
 use mathlib.Core.List.{List, [], ◌∷◌, ◌++◌}
-use Prim.Native.Nat.{ℕ, zero, suc, ◌+◌, ◌-◌, ◌≤◌, ◌<◌}
+use Prim.Native.Nat.{ℕ, zero, suc, ◌+◌, ◌-◌, ◌≤◌, ◌<◌, min}
 use native.Mathlib.Numerals.{add-one}
 use native.Mathlib.Omega.{arith}
 use lib.Dec.{T, eqb, ltb}
 use lib.ListN.{length, take, drop, get_or, drop_of_length-le, length-drop}
 use lib.Seq.{take-length, take_all, take-suc}
 use borrow.Author.Tests.{ne_eqb, eq-eqb, eqb-true, eqb-false, ltb-false}
+use denote.Ref.{Bor}
+use denote.Param.Members.{Mut}
+use Rattle.std.specs.declared.slice.Chunks.{Chunks}
 use Rattle.std.specs.Prelude.{Option, Some, None}
-use Rattle.std.specs.List.{fold, position, position_or_len, before_first, after_first}
+use Rattle.std.specs.Fn.{Called}
+use Rattle.std.specs.Option.{MatchOption}
+use Rattle.std.specs.Iterator.{ChecksAny, YieldsThen}
+use Rattle.std.specs.Slice.Iter.{chunks_rest, chunks_steps}
+use Rattle.std.specs.List.{FoldsTo, fold, position, position_or_len, before_first, after_first}
 use Rattle.std.specs.Cmp.Lexicographic.{pointwise}
 use Rattle.std.proofs.lemmas.List.{length-append}
+use Rattle.std.proofs.lemmas.List as list
 use Rattle.lists.specs.Lists.{any, Each, each_nil, each_cons}
 use Rattle.lists.proofs.Reflect.{of_eq, of_and}
 use Rattle.lists.proofs.Tests.{or_false, or_assoc}
 use Rattle.text.specs.Fields.{is_invalid, up_to, past, tabs, rest_at, field_at, reads}
+use Rattle.text.proofs.NumberLaws.{any_end}
 
 -- ---- a line split at its first tab
 up_first : (l : List ℕ) → up_to l ≡ before_first (λ b. eqb b 9) l
@@ -37,6 +46,10 @@ past_first (x ∷ l) = go (eqb x 9) (past_first l)
     go : (b : Bool) → past l ≡ after_first (λ y. eqb y 9) l → cond b l (past l) ≡ drop (cond (not b) (1 + position_or_len (λ y. eqb y 9) l) 0 + 1) (x ∷ l)
     go true e = refl
     go false e = let n : 1 + position_or_len (λ y. eqb y 9) l + 1 ≡ suc (position_or_len (λ y. eqb y 9) l + 1) = omega arith in rw n e
+
+-- to drop more than there is drops all
+pub drop_min : (n : ℕ) (l : List ℕ) → drop (min n (length l)) l ≡ drop n l
+drop_min n l = list.drop_min n l
 
 -- what `&t[a..]` holds
 pub rest_of_lem : (t : List ℕ) (a : ℕ) → take (length t - a) (drop a t) ≡ drop a t
@@ -139,6 +152,28 @@ any_folded l = go false l
     go : (a : Bool) (l : List ℕ) → fold (λ found b. found || is_invalid b) a l ≡ (a || any is_invalid l)
     go a [] = sym (or_false a)
     go a (x ∷ l) = go (a || is_invalid x) l ∙ or_assoc a (is_invalid x) (any is_invalid l)
+
+any-append : (p : ℕ → Bool) (l m : List ℕ) → any p (l ++ m) ≡ (any p l || any p m)
+unfolding any
+any-append p [] m = refl
+any-append p (x ∷ l) m = ap (λ b. p x || b) (any-append p l m) ∙ sym (or_assoc (p x) (any p l) (any p m))
+
+-- a search of one part after the other, which ends at the first that has some
+module _ {F : Type 0} {g : Mut F (Bor (List ℕ) × Unit {0}) Bool} (p : ℕ → Bool) (f : F) (r : Bool) (u : Chunks ℕ)
+    (part : (x : Bor (List ℕ)) (b : Bool) (q : F) → Called g f (x, tt) b q → (q ≡ f) × (b ≡ any p x.now)) where
+  from_part : (xs : List (Bor (List ℕ))) (o : Option (Bor (List ℕ))) (s : Chunks ℕ) (i j : F) → i ≡ f → YieldsThen chunks_steps s xs o u → FoldsTo (λ k x q. Called g k (x, tt) false q) i xs j
+      → MatchOption o (r ≡ false) (λ x. (r ≡ true) × ((q : F) × Called g j (x, tt) true q)) → r ≡ any p (chunks_rest s)
+  from_part [] None s i j e y z m = m ∙ sym (rw y.1 (any_end p (chunks_rest y.0) 0 (omega (arith, y.2.1.0))))
+  from_part [] (Some x) s i j e y z m =
+      let k = part x true m.1.0 (subst (λ q. Called g q (x, tt) true m.1.0) (sym z ∙ e) m.1.1) in
+      m.0 ∙ sym (rw (y.1, y.2.1.0, any-append p x.now (chunks_rest u), ← k.1))
+  from_part (x ∷ xs) o s i j e y z m =
+      let k = part x false z.0 (subst (λ q. Called g q (x, tt) false z.0) e z.1) in
+      let n = y.1 in
+      from_part xs o n.0 z.0 j k.0 (y.0, n.2, y.2) z.2 m ∙ sym (rw (n.1.1.0, any-append p x.now (chunks_rest n.0), ← k.1))
+
+  pub any_parts : (l : List ℕ) (s : Chunks ℕ) → ChecksAny chunks_steps g s f r u → chunks_rest s ≡ l → r ≡ any p l
+  any_parts l s d e = from_part d.0 d.1 s f d.2 refl d.3 d.4 d.5 ∙ ap (any p) e
 
 -- ---- fields in words
 -- no byte of a field is a tab

@@ -1,4 +1,4 @@
--- Laws of numbers in a field: of a loop over its bytes, by what is true of those up to place i, and the definitions in words.
+-- Laws of numbers in a field: of a loop over its bytes, by what is true of those from place i on or up to it, and the definitions in words.
 use mathlib.Core.Path.{◌≡◌, refl, ap, ◌∙◌}
 use mathlib.Core.Logic.{◌↔◌, ◌⊎◌}
 use mathlib.Core.Bool.{Bool, true, false, not, ◌&&◌, ◌||◌}
@@ -8,15 +8,28 @@ use native.Mathlib.Numerals.{add-one}
 use native.Mathlib.Nat.{pow-suc, pow-le-pow_right}
 use native.Mathlib.Omega.{arith}
 use lib.Dec.{T, eqb, leb, ltb, eqb→eq, ltb→lt, lt→ltb}
-use lib.ListN.{length, take, get_or}
-use lib.Seq.{take-suc, take_all}
-use borrow.Author.Tests.{ne_eqb, eq-eqb}
+use lib.ListN.{length, take, drop, get_or, drop_of_length-le, length-append, length-take}
+use lib.Seq.{drop-cons, take-suc, take_all}
+use borrow.Author.Tests.{eqb-true, eqb-false, ne_eqb, eq-eqb}
 use Rattle.std.specs.Prelude.{Option, Some, None}
 use Rattle.std.specs.Bool.{then_some}
-use Rattle.lists.specs.Lists.{all, Each}
+use Rattle.lists.specs.Lists.{any, all, Each}
 use Rattle.lists.proofs.Reflect.{of_eq, of_le, of_and, of_or, of_not, of_all}
 use Rattle.lists.proofs.Tests.{same, is_true, and_false}
 use Rattle.text.specs.Numbers.{is_digit, is_number, value_from, value_of, number_in, most, is_dash}
+
+-- ---- a loop: a test of some byte, and of each
+pub any_here : (p : ℕ → Bool) (l : List ℕ) (i : ℕ) → i < length l → p (get_or l i 0) ≡ true → any p (drop i l) ≡ true
+unfolding any
+any_here p l i h e = rw (drop-cons l i 0 h) (simp e)
+
+pub any_on : (p : ℕ → Bool) (l : List ℕ) (i : ℕ) → i < length l → p (get_or l i 0) ≡ false → any p (drop i l) ≡ any p (drop (i + 1) l)
+unfolding any
+any_on p l i h e = rw (drop-cons l i 0 h, add-one i) (simp e)
+
+pub any_end : (p : ℕ → Bool) (l : List ℕ) (i : ℕ) → length l ≤ i → any p (drop i l) ≡ false
+unfolding any
+any_end p l i h = simp (drop_of_length-le l h)
 
 -- ---- a loop: one byte more at the end
 all_snoc : (p : ℕ → Bool) (f : List ℕ) (d : ℕ) → all p (f ++ (d ∷ [])) ≡ (p d && all p f)
@@ -39,9 +52,52 @@ pub value_snoc : (f : List ℕ) (d : ℕ) → value_of (f ++ (d ∷ [])) ≡ val
 unfolding value_of
 value_snoc f d = value_from_snoc 0 f d
 
+value_grows : (v : ℕ) (l : List ℕ) → v ≤ value_from v l
+unfolding value_from
+value_grows v [] = omega arith
+value_grows v (b ∷ l) = omega (arith, value_grows (v * 10 + (b - 48)) l)
+
 pub of_digit : (b : ℕ) → T (is_digit b) ↔ ((48 ≤ b) × (b ≤ 57))
 unfolding is_digit
 of_digit b = of_and (leb 48 b) (leb b 57) (of_le 48 b) (of_le b 57)
+
+-- with a digit in front the number is not 0, unless that digit is 0; a 0 alone is 0
+front_more : (x : ℕ) (f : List ℕ) → is_digit x ≡ true → eqb x 48 ≡ false → eqb (value_of (x ∷ f)) 0 ≡ false
+unfolding value_of value_from
+front_more x f d e =
+    let lo : 48 ≤ x = ((of_digit x).0 (rw d tt)).0 in
+    let ne : x ≡ 48 → ⊥ = eqb-false x 48 e in
+    ne_eqb (value_of (x ∷ f)) 0 (λ (z : value_of (x ∷ f) ≡ 0). omega (arith, value_grows (0 * 10 + (x - 48)) f))
+
+front_zero : (x : ℕ) (f : List ℕ) → eqb x 48 ≡ true → eqb (length (x ∷ f)) 1 ≡ true → eqb (value_of (x ∷ f)) 0 ≡ true
+unfolding value_of value_from
+front_zero x [] e h = rw (eqb-true x 48 e)
+front_zero x (y ∷ f) e h = absurd (omega (arith, eqb-true (length (x ∷ y ∷ f)) 1 h))
+
+-- a digit makes a number where it comes first, and after a number other than 0
+pub number_snoc : (f : List ℕ) (d : ℕ) → is_number (f ++ (d ∷ [])) ≡ (is_digit d && (eqb (length f) 0 || (not (eqb (value_of f) 0) && is_number f)))
+unfolding is_number all
+number_snoc [] d = go (is_digit d)
+  where
+    go : (a : Bool) → ((a && true) && true) ≡ (a && true)
+    go true = refl
+    go false = refl
+number_snoc (x ∷ f) d =
+    let n = length f in
+    rw (all_snoc is_digit (x ∷ f) d, length-append f (d ∷ []), ne_eqb (suc (n + 1)) 0 (λ (e : suc (n + 1) ≡ 0). omega arith), ne_eqb (suc (n + 1)) 1 (λ (e : suc (n + 1) ≡ 1). omega arith), ne_eqb (suc n) 0 (λ (e : suc n ≡ 0). omega arith))
+    (go (is_digit d) (is_digit x) (all is_digit f) (eqb x 48) (eqb (length (x ∷ f)) 1) (eqb (value_of (x ∷ f)) 0) (front_more x f) (front_zero x f))
+  where
+    go : (a h g z o w : Bool) → (h ≡ true → z ≡ false → w ≡ false) → (z ≡ true → o ≡ true → w ≡ true) → ((a && (h && g)) && not z) ≡ (a && (not w && ((h && g) && (o || not z))))
+    go false h g z o w p q = refl
+    go true false g z o true p q = refl
+    go true false g z o false p q = refl
+    go true true false z o true p q = refl
+    go true true false z o false p q = refl
+    go true true true false true w p q = rw (p refl refl)
+    go true true true false false w p q = rw (p refl refl)
+    go true true true true true w p q = rw (q refl refl)
+    go true true true true false true p q = refl
+    go true true true true false false p q = refl
 
 -- ---- the loop over a field: the first i bytes are digits, which make a number below 10^i
 pub digit_on : (f : List ℕ) (i : ℕ) → i < length f → all is_digit (take i f) ≡ true → 48 ≤ get_or f i 0 → get_or f i 0 ≤ 57 → all is_digit (take (i + 1) f) ≡ true
@@ -167,6 +223,19 @@ pub ruleset number_ends = (stops, empty_none, zero_none, one_digit, more_digits,
 -- ---- a capped number under a test
 pub ltb_capped : (n v h : ℕ) → h < n → ltb h (min v n) ≡ ltb h v
 ltb_capped n v h p = same (ltb h (min v n)) (ltb h v) (λ t. lt→ltb h v (omega (arith, ltb→lt h (min v n) t))) (λ t. lt→ltb h (min v n) (omega (arith, ltb→lt h v t)))
+
+pub eqb_capped : (n v h : ℕ) → h < n → eqb (min v n) h ≡ eqb v h
+eqb_capped n v h p = same (eqb (min v n) h) (eqb v h) (λ t. (of_eq v h).1 (omega (arith, eqb→eq (min v n) h t))) (λ t. (of_eq (min v n) h).1 (omega (arith, eqb→eq v h t)))
+
+-- ---- the same loop with the number capped: what the first i bytes are, with one byte more
+pub number_on : (s : List ℕ) (i : ℕ) (b c : Bool) (v : ℕ) → i < length s → b ≡ is_number (take i s) → v ≡ min (value_of (take i s)) most
+    → c ≡ (is_digit (get_or s i 0) && (eqb i 0 || (not (eqb v 0) && b))) → c ≡ is_number (take (i + 1) s)
+number_on s i b c v h p q e =
+    let n : length (take i s) ≡ i = simp length-take (omega arith) in
+    e ∙ rw (p, q, eqb_capped most (value_of (take i s)) 0 (omega arith), add-one i, take-suc s i 0 h, number_snoc (take i s) (get_or s i 0), n)
+
+pub capped_on : (s : List ℕ) (i v w : ℕ) → i < length s → v ≡ min (value_of (take i s)) most → w ≡ min (v * 10 + (get_or s i 0 - 48)) most → w ≡ min (value_of (take (i + 1) s)) most
+capped_on s i v w h q e = e ∙ rw (add-one i, take-suc s i 0 h, value_snoc (take i s) (get_or s i 0)) (omega arith)
 
 -- ---- numbers in words
 -- one digit or more, and one alone or no zero in front

@@ -1,19 +1,19 @@
-use Rattle.std.proofs.Common.{rules, tests, ◌≡◌, map}
-use mathlib.Core.Path.{sym, ◌∙◌}
-use Rattle.readings.specs.Readings.{fresh, letter, columns_of, positions_of, counts_of, letters_of, first_readings}
-use lib.ListN.{get_or}
-use Rattle.lists.proofs.Chains.{made_by}
-use Rattle.lists.proofs.Ranges.{map_tab}
+use mathlib.Core.Path.{refl, ap, ◌∙◌}
+use Rattle.std.proofs.Common.{rules, ◌≡◌, arith, min, length, set}
+use Rattle.std.proofs.lemmas.List.{length-take}
+use Rattle.readings.proofs.CopiedColumns.{columns_none, columns_more, columns_first}
 use Rattle.readings.proofs.reading_list.columns_of.Goals as goal
 
+pub loop-i-init : goal.loop-i-init
+loop-i-init c = columns_none _ refl
+
+pub loop-i-preserved : goal.loop-i-preserved
+loop-i-preserved c =
+    let l = c.loop-i in
+    let n : c.min.result ≡ min (length c.args.readings.now) 600 = search rules in
+    columns_more _ l.i _ (omega (arith, c.loop-i-test.true, n, length-take c.min.result c.args.readings.now)) c.loop-i-test.true l.columns _ l.invariant refl refl (ap (λ v. set l.columns.kinds l.i v) c.from.ensures)
+
 pub returns : goal.returns
-unfolding columns_of positions_of counts_of letters_of first_readings
 returns c =
-    let rs = c.args.readings.now in
-    let p : c.from_fn.result ≡ map (λ r. r.position) (first_readings rs) =
-    made_by _ (λ i. (get_or rs i fresh).position) 0 _ 600 _ c.from_fn.ensures.items (λ x b r q k. search (rules, tests)) ∙ sym (map_tab (λ r. r.position) 600 0 (λ i. get_or rs i fresh)) in
-    let x : c.from_fn-2.result ≡ map (λ r. r.count.0) (first_readings rs) =
-    made_by _ (λ i. (get_or rs i fresh).count.0) 0 _ 600 _ c.from_fn-2.ensures.items (λ x b r q k. search (rules, tests)) ∙ sym (map_tab (λ r. r.count.0) 600 0 (λ i. get_or rs i fresh)) in
-    let l : c.from_fn-3.result ≡ map letter (first_readings rs) =
-    made_by _ (λ i. letter (get_or rs i fresh)) 0 _ 600 _ c.from_fn-3.ensures.items (λ x b r q k. search (rules, tests)) ∙ sym (map_tab letter 600 0 (λ i. get_or rs i fresh)) in
-    λ i. record { positions = p i; indexes = x i; kinds = l i }
+    let l = c.loop-i in
+    l.invariant ∙ columns_first c.args.readings.now c.min.result l.i (search rules) (omega (arith, l.auto.i-end, c.loop-i-test.false))
