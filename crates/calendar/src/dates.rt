@@ -8,7 +8,7 @@ use crate::Date;
 const LENGTHS: [u64; 13] = [0, 31, 29, 31, 30, 31, 30, 31, 31, 30, 31, 30, 31];
 
 #[tactic(auto, unfolding(crate::specs::Dates::leap))]
-pub(crate) fn is_leap(year: u64) -> bool
+pub fn is_leap(year: u64) -> bool
     ensures { result ≡ leap year }
 {
     year % 4 == 0 && (year % 100 != 0 || year % 400 == 0)

@@ -9,7 +9,7 @@ mod places; // the place of a date, and the date at a place
 mod spans; // the years of a site's history and axis
 mod positions; // the position of a date on the axis, 366 for each year, and back
 
-pub use dates::{is_date, is_winter};
+pub use dates::{is_date, is_leap, is_winter};
 pub use places::{date_of_winter, date_place, day_at, winter_day_at, winter_place};
 pub use positions::{date_at, position};
 pub use rows::{has_date, has_winter_date};

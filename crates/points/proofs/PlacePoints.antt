@@ -3,17 +3,19 @@ use mathlib.Core.Path.{◌≡◌, refl}
 use mathlib.Core.Bool.{Bool, true, false}
 use mathlib.Core.Option.{some}
 use Rattle.std.specs.Prelude.{Result, Ok, Err, Some, None}
-use Prim.Native.Nat.{ℕ, ◌*◌, ◌≤◌}
+use Prim.Native.Nat.{ℕ, ◌+◌, ◌*◌, ◌≤◌}
+use native.Mathlib.Nat.{div-zero}
 use native.Mathlib.Omega.{arith}
 use lib.Dec.{T, ltb, leb→le}
 use borrow.Author.Tests.{ltb-false, ne_eqb, eq-eqb}
-use Rattle.rounding.specs.Points.{over, rounded, exceeds, most_point}
+use Rattle.rounding.specs.Rounding.{half_up}
+use Rattle.rounding.specs.Points.{over, rounded, profiled, exceeds, most_point}
 use Rattle.rounding.specs.Units.{in_mw}
 use Rattle.rounding.specs.Answers.{limit_view, limited, limited_point}
 use Rattle.rounding.specs.declared.Power.{Power}
 use Rattle.rounding.specs.declared.Exceeds.{Exceeds}
 use Rattle.rounding.proofs.Laws.{half_up_only}
-use Rattle.meaning.specs.Points.{Source, own_of, read_by, rounded_point, source_exceeds, origin_exceeds, rounded_origin, fraction_of}
+use Rattle.meaning.specs.Points.{Source, own, by_profile, own_of, read_by, rounded_point, source_exceeds, origin_exceeds, rounded_origin, fraction_of}
 use Rattle.meaning.specs.Blocks.{missing_point, point_of_code}
 use Rattle.points.specs.PlacePoints.{PlacePoint, point_repr, limited_place}
 use Rattle.points.specs.OwnFits.{is_point, PlacePointFits, PlacePointIs}
@@ -52,6 +54,15 @@ unfolding point_repr limited_place
 place_filled s n q r e p l h =
     let i = some_limited q n l in
     rw h (record { is = rw (e, p) i; fits = limited_fits (some_point q) n i })
+
+-- ---- an interval without daily sums: a division by 0 gives 0
+no_total : (e p : ℕ) → rounded (profiled e p 0) ≡ 0
+unfolding rounded profiled half_up
+no_total e p = div-zero (2 * (2000 * e * p) + 0)
+
+pub empty_filled : (e p t : ℕ) → t ≡ 0 → PlacePointIs (own (by_profile e p t)) (Ok (Some (in_mw 0)))
+unfolding limit_view limited point_repr source_exceeds origin_exceeds rounded_point rounded_origin fraction_of exceeds
+empty_filled e p t h = record { is = rw (h, no_total e p); fits = omega arith }
 
 -- ---- a point as read
 read_mw : (v : ℕ) → rounded (over (1000 * v) 1) ≡ 1000 * v

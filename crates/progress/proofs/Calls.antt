@@ -1,11 +1,14 @@
 -- A step and the line's call: where the reading is stored, and that the call is the step with the reading stored and the line counted.
-use mathlib.Core.Path.{◌≡◌, refl}
+use mathlib.Core.Path.{◌≡◌, refl, sym}
 use mathlib.Core.Bool.{Bool, true, false, cond}
 use mathlib.Core.List.{List}
 use mathlib.Core.Option.{Option, some, none}
-use Prim.Native.Nat.{ℕ}
+use Prim.Native.Nat.{ℕ, ◌<◌}
+use native.Mathlib.Omega.{arith}
 use lib.ListN.{set}
 use borrow.Author.Tests.{ne_eqb}
+use Rattle.std.specs.Prelude.{Ok, Some}
+use Rattle.readings.specs.declared.Reading.{Reading as CodeReading}
 use Rattle.readings.specs.Columns.{lent_blocks}
 use Rattle.text.specs.Fields.{field_at}
 use Rattle.meaning.specs.Filing.{Kind, estimated, Reading, reading}
@@ -14,8 +17,29 @@ use Rattle.meaning.specs.Refusals.{Reason, number_of, refusal}
 use Rattle.meaning.specs.Blocks.{Blocks}
 use Rattle.meaning.specs.Record.{Rec, in_state, axis_of_rec, before_of}
 use Rattle.meaning.specs.Calls.{line_by, position_on, reading_at, rec_after, blocks_after}
+use Rattle.meaning.proofs.Accepted.{is_tag}
 use Rattle.line_checks.proofs.Chain.{number_above}
 use Rattle.progress.specs.Steps.{Stepped, line_blocks, stores_after, step_by, step_of, answer_of, out_after}
+use Rattle.progress.specs.declared.Progress.{Progress}
+use Rattle.progress.specs.ProgressViews.{step_view}
+use Rattle.progress.proofs.DatedLines.{reading_place}
+
+-- a reading's position is on the axis; a line without a reading has position 0
+pub on_axis : (s : Rec) (l : Line) (w : Blocks) (o : Stepped) → o ≡ step_of s l w → o.position < 4392
+unfolding step_of step_by
+on_axis s l w o e = rw e (go (refusal (before_of s) l) refl)
+  where
+    place : refusal (before_of s) l ≡ none → (b : Bool) → is X (tag_of l) ≡ b → cond b (position_on (axis_of_rec s) l) 0 < 4392
+    place q true t = (reading_place s l q (sym (is_tag X (tag_of l) (rw t tt)))).0
+    place q false t = omega arith
+
+    go : (r : Option Reason) → refusal (before_of s) l ≡ r → (step_by r s l w).position < 4392
+    go none q = place q (is X (tag_of l)) refl
+    go (some y) q = omega arith
+
+-- so is that of each reading that a step in the code gives
+pub reading_on_axis : (s : Rec) (l : Line) (w : Blocks) (n : ℕ) (p : Progress) (r : CodeReading) (v : Blocks) → step_view n p (Ok (Some r)) v ≡ step_of s l w → r.position < 4392
+reading_on_axis s l w n p r v e = on_axis s l w (step_view n p (Ok (Some r)) v) e
 
 -- only an X line gives a reading, and only an X line stores one
 stored_same : (b : Bool) (rs : List Reading) (k p x : ℕ) (kind : Kind)

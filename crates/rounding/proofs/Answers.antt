@@ -1,12 +1,14 @@
 -- What an answer with 18 says, in plain words.
 use mathlib.Core.Bool.{Bool, true, false}
-use mathlib.Core.Path.{◌≡◌, refl}
+use mathlib.Core.Path.{◌≡◌, refl, ap}
 use Rattle.std.specs.Prelude.{Result, Ok, Err}
 use Prim.Native.Nat.{ℕ, ◌≤◌, ◌<◌}
-use borrow.Author.Tests.{lt-ltb, le-ltb}
+use native.Mathlib.Omega.{arith}
+use lib.Dec.{ltb}
+use borrow.Author.Tests.{lt-ltb, le-ltb, ltb-true, ltb-false}
 use Rattle.rounding.specs.Points.{exceeds, most_point}
 use Rattle.rounding.specs.Units.{in_mw}
-use Rattle.rounding.specs.Answers.{limit_view, limited, limited_point}
+use Rattle.rounding.specs.Answers.{within, refusal, limit_view, limited, limited_point}
 use Rattle.rounding.specs.declared.Power.{Power}
 use Rattle.rounding.specs.declared.Exceeds.{Exceeds}
 
@@ -36,3 +38,31 @@ point_within p h = simp (le-ltb most_point p.0 h)
 pub point_exceeds : (p : Power) → most_point < p.0 → limit_view {A = Power} (Err (record {})) ≡ limited_point p.0
 unfolding limit_view limited_point limited exceeds
 point_exceeds p h = simp (lt-ltb most_point p.0 h)
+
+-- the same in document 01's words
+pub said_point : (n : ℕ) → n ≤ most_point → limited_point n ≡ within (in_mw n)
+unfolding limited_point limited exceeds
+said_point n h = simp (le-ltb most_point n h)
+
+pub said_exceeds : (n : ℕ) → most_point < n → limited_point n ≡ refusal 18
+unfolding limited_point limited exceeds
+said_exceeds n h = simp (lt-ltb most_point n h)
+
+-- and back: what an answer says of the number
+pub is_point_lem : (n : ℕ) (p : Power) → limited_point n ≡ within p → (p.0 ≡ n) × (p.0 ≤ most_point)
+unfolding limited_point limited exceeds
+is_point_lem n p e = by (ltb most_point n) refl e
+  where
+    by : (b : Bool) → ltb most_point n ≡ b → limited b (in_mw n) ≡ within p → (p.0 ≡ n) × (p.0 ≤ most_point)
+    by true t q = let z : ◌≡◌ {A = ℕ} 0 1 = cc in omega arith
+    by false t q =
+        let v : p.0 ≡ n = ap (λ (x : Power). x.0) (cc) in
+        omega (arith, ltb-false most_point n t)
+
+pub is_over : (n : ℕ) → limited_point n ≡ refusal 18 → most_point < n
+unfolding limited_point limited exceeds
+is_over n e = by (ltb most_point n) refl e
+  where
+    by : (b : Bool) → ltb most_point n ≡ b → limited b (in_mw n) ≡ refusal 18 → most_point < n
+    by true t q = ltb-true most_point n t
+    by false t q = let z : ◌≡◌ {A = ℕ} 0 1 = cc in omega arith

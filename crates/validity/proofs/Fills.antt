@@ -10,7 +10,7 @@ use native.Mathlib.Omega.{arith}
 use lib.Dec.{eqb, leb}
 use lib.ListN.{length, get_or, set, replicate, length-replicate, take, drop}
 use Rattle.std.proofs.Common.{append_assoc, length-append, length-drop}
-use Rattle.std.proofs.lemmas.List.{take-append-drop, take-replicate, length-take-le, get_or_append_left, get_or-append_right, get_or-take, get_or-replicate}
+use Rattle.std.proofs.lemmas.List.{take-append-drop, take-replicate, length-take, length-take-le, get_or_append_left, get_or-append_right, get_or-take, get_or-drop, get_or-replicate, get_or_past}
 use Rattle.std.proofs.lemmas.List.Edits.{fill_from_more}
 use lib.Seq.{paste, ext_get_or}
 use borrow.Author.Tests.{lt-ltb, le-ltb, le-leb, lt-leb, ne_eqb, eqb-false}
@@ -50,6 +50,38 @@ module _ {A : Type 0} (xs : List A) (a : ℕ) (v : A) where
       get_or-append_right (take a xs) (replicate (b - a) v ++ drop b xs) a q d (length-take-le a xs (omega arith)) h
       ∙ get_or_append_left (replicate (b - a) v) (drop b xs) d (q - a) (omega (arith, length-replicate (b - a) v))
       ∙ get_or-replicate (b - a) (q - a) v d (omega arith)
+
+  -- from b on each place is as it was, also where the list ends before b
+  pub filled_after : (b q : ℕ) (d : A) → a ≤ b → b ≤ q → get_or (filled xs a b v) q d ≡ get_or xs q d
+  unfolding filled
+  filled_after b q d h k = go (tri b (length xs))
+    where
+      n : ℕ
+      n = b - a
+
+      within : b ≤ length xs → get_or (take a xs ++ (replicate n v ++ drop b xs)) q d ≡ get_or xs q d
+      within l =
+          get_or-append_right (take a xs) (replicate n v ++ drop b xs) a q d (length-take-le a xs (omega arith)) (omega arith)
+          ∙ get_or-append_right (replicate n v) (drop b xs) n (q - a) d (length-replicate n v) (omega arith)
+          ∙ get_or-drop b xs (q - a - n) d
+          ∙ ap (λ (i : ℕ). get_or xs i d) (omega arith)
+
+      past : length xs < b → get_or (take a xs ++ (replicate n v ++ drop b xs)) q d ≡ get_or xs q d
+      past l =
+          get_or_past (take a xs ++ (replicate n v ++ drop b xs)) q d (omega (
+            arith,
+            length-append (take a xs) (replicate n v ++ drop b xs),
+            length-append (replicate n v) (drop b xs),
+            length-take a xs,
+            length-replicate n v,
+            length-drop b xs,
+          ))
+          ∙ sym (get_or_past xs q d (omega arith))
+
+      go : (b < length xs) ⊎ ((b ≡ length xs) ⊎ (length xs < b)) → get_or (take a xs ++ (replicate n v ++ drop b xs)) q d ≡ get_or xs q d
+      go (inl l) = within (omega arith)
+      go (inr (inl e)) = within (omega arith)
+      go (inr (inr l)) = past l
 
   -- nothing is written yet
   pub filled_none : xs ≡ filled xs a a v

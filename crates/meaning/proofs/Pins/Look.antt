@@ -223,6 +223,7 @@ look_words = record {
   rate = rate_words;
   broken = λ ls y. of_any (λ (l : Line). is B (tag_of l) && eqb (year_on l) y) (of_year B y) ls;
   ended = λ ls. of_any (λ (l : Line). is E (tag_of l)) (λ l. of_is E (tag_of l)) ls;
+  dates = dates;
   profile_dates = λ ls y. dates P ls y;
   daily_dates = λ ls y. dates D ls y;
   readings = λ ls. present_keep (λ (l : Line). is X (tag_of l)) (reading_of ls) ls;

@@ -9,7 +9,7 @@ use Rattle.text.specs.Fields.{field_at}
 use Rattle.meaning.specs.Filing.{curve_meter, index_meter, real, corrected, estimated, Reading, reading}
 use Rattle.meaning.specs.Line.{Line, Tag, S, C, X, D, P, B, R, E, is, tag_of, number_at, year_on, month_on, day_on, site_on, kind_of, winter_on, place_on}
 use Rattle.meaning.specs.Refusals.{Reason, number_of}
-use Rattle.meaning.specs.File.{axis_in, refusal_at, filing_in}
+use Rattle.meaning.specs.File.{axis_in, refusal_at, dates_in, filing_in}
 use Rattle.meaning.specs.Sheet.{outcome_of, refused_at, closing_of}
 use Rattle.meaning.specs.Restated.Lines.{Dash}
 
@@ -47,6 +47,8 @@ pub record LookWords : Type 0 where
       → ((filing_in ls).rate y ≡ some r) ↔ Some (λ l. ((tag_of l ≡ R) × (year_on l ≡ y)) × (number_at l 2 ≡ r)) ls
   pub broken : (ls : List Line) (y : ℕ) → T ((filing_in ls).broken y) ↔ Some (λ l. (tag_of l ≡ B) × (year_on l ≡ y)) ls
   pub ended : (ls : List Line) → T (filing_in ls).ended ↔ Some (λ l. tag_of l ≡ E) ls
+  -- the lines of a tag that name a year, counted for every tag; those of P and of D are the filing's
+  pub dates : (t : Tag) (ls : List Line) (y : ℕ) → CountIs (λ l. (tag_of l ≡ t) × (year_on l ≡ y)) ls (dates_in t ls y)
   pub profile_dates : (ls : List Line) (y : ℕ) → CountIs (λ l. (tag_of l ≡ P) × (year_on l ≡ y)) ls ((filing_in ls).profile_dates y)
   pub daily_dates : (ls : List Line) (y : ℕ) → CountIs (λ l. (tag_of l ≡ D) × (year_on l ≡ y)) ls ((filing_in ls).daily_dates y)
   -- the readings are those of the X lines, in their order
