@@ -25,7 +25,7 @@ use Rattle.sheet.specs.declared.Printed.{Printed}
 use Rattle.sheet.specs.SheetTexts.{sheet_text, Holds}
 use Rattle.file_run.specs.declared.ends.End.{End}
 use Rattle.file_run.specs.declared.ends.End.TheVariants.{Answer, Input}
-use Rattle.file_run.specs.ReadEnds.{Stands, ReadOn}
+use Rattle.file_run.specs.ReadEnds.{Stands, Unanswered, LastPiece, StopsAtAnswer, ReadOn}
 use Rattle.file_run.specs.PrintedSheets.{SheetOf, PrintsSheet}
 use Rattle.file_run.proofs.WholeInput.{whole_text}
 
@@ -60,22 +60,52 @@ module _ (a b : Option (List ℕ)) (s r : Run) (n : ℕ) (g : Going a b s r n) w
     many = omega (arith, length-append g.bytes piece, g.many);
   }
 
+-- ---- the same, and no read after a final answer
+pub record Waiting (a b : Option (List ℕ)) (s r : Run) (n : ℕ) : Type 0 where
+  pub going : Going a b s r n
+  pub unanswered : Unanswered s going.bytes
+
+pub waiting_first : (a : Option (List ℕ)) (s : Run) → Waiting a a s s 0
+unfolding going_first
+waiting_first a s = record { going = going_first a s; unanswered = inl refl }
+
+module _ (a b : Option (List ℕ)) (s r : Run) (n : ℕ) (w : Waiting a b s r n) where
+  pub waiting_next : (c : Option (List ℕ)) (r' : Run) (piece : List ℕ) → r' ≡ fed r piece → Consumes b c piece → 0 < length piece → is_final r'.out.answer ≡ false
+      → Waiting a c s r' (n + 1)
+  waiting_next c r' piece q p some h =
+      let g : Going a c s r' (n + 1) = going_next a b s r n w.going c r' piece q p some in
+      record { going = g; unanswered = inr (sym (ap (λ (x : Run). is_final x.out.answer) g.so_far) ∙ h) }
+
   pub at_input : (c : Option (List ℕ)) → Consumes b c [] → IsAtEnd c → ReadOn a c s r Input
-  unfolding Stands
+  unfolding Stands StopsAtAnswer
   at_input c p e = record {
-    bytes = g.bytes ++ [];
-    so_far = rw (append-nil g.bytes) g.so_far;
-    taken = taken_then a b c g.bytes [] g.taken p;
+    bytes = w.going.bytes ++ [];
+    so_far = rw (append-nil w.going.bytes) w.going.so_far;
+    taken = taken_then a b c w.going.bytes [] w.going.taken p;
     stands = e;
+    stops = rw (append-nil w.going.bytes) w.unanswered;
   }
 
-  pub at_answer : is_final r.out.answer ≡ true → ReadOn a b s r Answer
-  unfolding Stands
-  at_answer h = record { bytes = g.bytes; so_far = g.so_far; taken = g.taken; stands = inl h }
+  pub at_answer : (c : Option (List ℕ)) (r' : Run) (piece : List ℕ) → r' ≡ fed r piece → Consumes b c piece → length piece ≤ 65536 → is_final r'.out.answer ≡ true
+      → ReadOn a c s r' Answer
+  unfolding Stands StopsAtAnswer
+  at_answer c r' piece q p most h = record {
+    bytes = w.going.bytes ++ piece;
+    so_far = q ∙ ap (λ (x : Run). fed x piece) w.going.so_far ∙ sym (fed_append s w.going.bytes piece);
+    taken = taken_then a b c w.going.bytes piece w.going.taken p;
+    stands = inl h;
+    stops = record { before = w.going.bytes; piece = piece; parts = refl; size = most; unanswered = w.unanswered };
+  }
 
   pub used_up : most_input ≤ n → ReadOn a b s r Answer
-  unfolding Stands
-  used_up h = record { bytes = g.bytes; so_far = g.so_far; taken = g.taken; stands = inr (omega (arith, g.many)) }
+  unfolding Stands StopsAtAnswer
+  used_up h = record {
+    bytes = w.going.bytes;
+    so_far = w.going.so_far;
+    taken = w.going.taken;
+    stands = inr (omega (arith, w.going.many));
+    stops = record { before = w.going.bytes; piece = []; parts = sym (append-nil w.going.bytes); size = omega arith; unanswered = w.unanswered };
+  }
 
 -- ---- the end: the reads are never used up before the final answer
 module _ (f : Rec) (w : Blocks) (sized : T (sizes_fit w)) (r : Run) (bs : List ℕ) (so_far : r ≡ fed (started f w) bs) where

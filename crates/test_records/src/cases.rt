@@ -231,7 +231,7 @@ pub(crate) const BREAKS_AND_RATES: [Case; 13] = [
 ];
 
 // Points: near rows from 2016, far rows from 2011. A line reads no block.
-pub(crate) const POINTS_HELD: [Case; 18] = [
+pub(crate) const POINTS_HELD: [Case; 19] = [
     (
         "1 January 2016 100,000,000 W",
         Wind,
@@ -280,6 +280,7 @@ pub(crate) const POINTS_HELD: [Case; 18] = [
     ),
     ("29 February 2011 0 W", River, Forge::Far(1_180, 0)),
     ("29 February 2012 0 W", River, Forge::Far(4_220, 0)),
+    ("31 December 2015 0 W", River, Forge::Far(15_199, 0)),
     (
         "31 December 2015 100,000,000 W",
         River,
@@ -293,7 +294,7 @@ pub(crate) const POINTS_HELD: [Case; 18] = [
 ];
 
 // Slot profiles, rows from 2016, or 2011; daily sums, rows from 2015, or 2010.
-pub(crate) const PROFILES_HELD: [Case; 22] = [
+pub(crate) const PROFILES_HELD: [Case; 23] = [
     (
         "1 January 2016 profile 65,535",
         Wind,
@@ -324,6 +325,7 @@ pub(crate) const PROFILES_HELD: [Case; 22] = [
     ),
     ("29 February 2015 sum 1", Wind, Forge::Sum(59, 1)),
     ("29 February 2016 sum 1", Wind, Forge::Sum(425, 1)),
+    ("31 December 2021 sum 1", Wind, Forge::Sum(2_561, 1)),
     (
         "31 December 2021 sum 3,145,680",
         Wind,

@@ -35,45 +35,41 @@ fn reading(position: u32) -> Reading {
     }
 }
 
-// Points of 1,000,000 W on every day of AL-5, the last near year, but 29 February.
-fn last_year_of_points() -> [u32; 15_201] {
-    let mut near = [NO_POINT; 15_201];
+// Puts points of 1,000,000 W on every day of AL-5, the last near year, but 29 February.
+fn put_year_of_points(near: &mut [u32; 15_201]) {
     near[12_160..15_200].fill(1_000_000);
     near[13_340..13_360].fill(NO_POINT);
-    near
 }
 
 impl Held {
-    // What is held before it is forged: a reading stands on every second day, so that none is on 29 February.
-    fn base(base: Base) -> Held {
-        let near = if is_before_s(base) {
-            [NO_POINT; 15_201]
-        } else {
-            last_year_of_points()
-        };
-        Held {
-            near,
+    // A reading stands on every second day, so that none is on 29 February. The blocks are forged in place: handed on by value, 210 kB are copied again.
+    pub(crate) fn of(base: Base, forge: Forge) -> Held {
+        let mut held = Held {
+            near: [NO_POINT; 15_201],
             far: [NO_POINT; 15_201],
             slots: [0; 30_401],
             daily: [0; 4393],
             readings: from_fn(|i| reading(2 * i as u32)),
+        };
+        if !is_before_s(base) {
+            put_year_of_points(&mut held.near);
         }
+        held.forge(forge);
+        held
     }
 
-    pub(crate) fn of(base: Base, forge: Forge) -> Held {
-        let mut held = Held::base(base);
+    fn forge(&mut self, forge: Forge) {
         match forge {
-            Forge::Near(i, watts) => set_at(&mut held.near, i, watts),
-            Forge::Far(i, watts) => set_at(&mut held.far, i, watts),
-            Forge::Slot(i, value) => set_at(&mut held.slots, i, value),
-            Forge::Sum(i, value) => set_at(&mut held.daily, i, value),
-            Forge::Position(i, position) if i < 600 => held.readings[i].position = position,
-            Forge::Index(i, count) if i < 600 => held.readings[i].count = count,
-            Forge::LastOf600(position) => held.readings[599].position = position,
-            Forge::Uncounted(position) => held.readings.fill(reading(position)),
+            Forge::Near(i, watts) => set_at(&mut self.near, i, watts),
+            Forge::Far(i, watts) => set_at(&mut self.far, i, watts),
+            Forge::Slot(i, value) => set_at(&mut self.slots, i, value),
+            Forge::Sum(i, value) => set_at(&mut self.daily, i, value),
+            Forge::Position(i, position) if i < 600 => self.readings[i].position = position,
+            Forge::Index(i, count) if i < 600 => self.readings[i].count = count,
+            Forge::LastOf600(position) => self.readings[599].position = position,
+            Forge::Uncounted(position) => self.readings.fill(reading(position)),
             _ => {}
         }
-        held
     }
 }
 

@@ -95,6 +95,18 @@ fn read_full<R: Read>(input: &mut R, buf: &mut [u8]) -> io::Result<usize>
     Ok(done)
 }
 
+// Where the last line ends, of a text whose first n bytes are the input. The input's end ends no line: a last one that has no byte 10 goes on over what
+// follows in the text, so that an input that was cut off ends no case.
+fn lines_end(text: &[u8], n: usize) -> usize
+    requires { n ≤ length text.now }
+    ensures { result ≤ length text.now }
+{
+    match text[..n].last() {
+        None | Some(b'\n') => n,
+        Some(_) => text.len(),
+    }
+}
+
 fn main(rt: HostRuntime) -> io::Result<()> {
     let mut text = [0u8; 65536];
     let n = read_full(&mut rt.stdin(), &mut text)?;
@@ -107,7 +119,7 @@ fn main(rt: HostRuntime) -> io::Result<()> {
         readings: fresh_readings(),
         curve: [0; 4400],
     };
-    for ended in text[..n].split_inclusive(|byte| *byte == b'\n') {
+    for ended in text[..lines_end(&text, n)].split_inclusive(|byte| *byte == b'\n') {
         let line = ended.strip_suffix(b"\n").unwrap_or(ended);
         let said = match line {
             b"=" => Some(held.end_case(&mut near)),
