@@ -23,7 +23,8 @@ pub record LastPiece (s : Run) (bs : List ℕ) : Type 0 where
   pub size : length piece ≤ 65536
   pub unanswered : Unanswered s before
 
--- a final answer leaves no further read. The read that finds the reader's end brings no byte, and there is no final answer before it either
+-- past a place that has no final answer at most one piece is read. The read that finds the reader's end brings no byte, and there is no final answer before it
+-- either
 unfoldable pub StopsAtAnswer : End → Run → List ℕ → Type 0
 StopsAtAnswer Answer s bs = LastPiece s bs
 StopsAtAnswer Input s bs = Unanswered s bs

@@ -1,6 +1,5 @@
 // S lines: edition, AL, filière, meter, PS.
 ghost use Rattle.std.specs.Prelude.{◌≡◌};
-ghost use Rattle.text.specs.Fields.{reads, edition};
 ghost use Rattle.meaning.specs.Line.{S, meter_of as meter_in};
 ghost use Rattle.meaning.specs.Refusals.{is_too_soon};
 ghost use Rattle.line_form.specs.Views.{meter_repr};
@@ -21,14 +20,6 @@ fn meter_of(field: &[u8]) -> Option<Meter>
     }
 }
 
-// Whether a field is the text of the edition.
-#[tactic(auto, unfolding(text::specs::Fields::edition))]
-fn is_edition(field: &[u8]) -> bool
-    ensures { result ≡ reads field.now edition }
-{
-    text::reads(field, b"CF_96E/11")
-}
-
 // 9: filières 6 to 11 are certified only from AL 2023 on.
 #[tactic(auto, unfolding(meaning::specs::Refusals::is_too_soon))]
 pub fn is_too_soon(al: u64, filiere: u64) -> bool
@@ -43,7 +34,7 @@ pub fn read_site(line: &[u8]) -> Option<Site>
     ensures { result ≡ where_formed S line.now (site_read_of line.now) }
 {
     let edition = text::split(text::rest(line));
-    if !is_edition(edition.field) {
+    if !text::is_edition(edition.field) {
         return None;
     }
     let al = text::split(edition.rest);

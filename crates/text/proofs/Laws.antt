@@ -3,7 +3,7 @@ use mathlib.Core.Path.{◌≡◌, refl, ap, sym, subst, ◌∙◌}
 use mathlib.Core.Logic.{◌↔◌, ◌⊎◌, inl, inr, ⊎_elim}
 use mathlib.Core.Bool.{Bool, true, false, not, ◌&&◌, ◌||◌, cond}
 use mathlib.Core.List.{List, [], ◌∷◌, ◌++◌}
-use Prim.Native.Nat.{ℕ, zero, suc, ◌+◌, ◌-◌, ◌≤◌, ◌<◌, min}
+use Prim.Native.Nat.{ℕ, zero, suc, ◌+◌, ◌-◌, ◌≤◌, ◌<◌}
 use native.Mathlib.Numerals.{add-one}
 use native.Mathlib.Omega.{arith}
 use lib.Dec.{T, eqb, ltb}
@@ -21,7 +21,6 @@ use Rattle.std.specs.Slice.Iter.{chunks_rest, chunks_steps}
 use Rattle.std.specs.List.{FoldsTo, fold, position, position_or_len, before_first, after_first}
 use Rattle.std.specs.Cmp.Lexicographic.{pointwise}
 use Rattle.std.proofs.lemmas.List.{length-append}
-use Rattle.std.proofs.lemmas.List as list
 use Rattle.lists.specs.Lists.{any, Each, each_nil, each_cons}
 use Rattle.lists.proofs.Reflect.{of_eq, of_and}
 use Rattle.lists.proofs.Tests.{or_false, or_assoc}
@@ -46,10 +45,6 @@ past_first (x ∷ l) = go (eqb x 9) (past_first l)
     go : (b : Bool) → past l ≡ after_first (λ y. eqb y 9) l → cond b l (past l) ≡ drop (cond (not b) (1 + position_or_len (λ y. eqb y 9) l) 0 + 1) (x ∷ l)
     go true e = refl
     go false e = let n : 1 + position_or_len (λ y. eqb y 9) l + 1 ≡ suc (position_or_len (λ y. eqb y 9) l + 1) = omega arith in rw n e
-
--- to drop more than there is drops all
-pub drop_min : (n : ℕ) (l : List ℕ) → drop (min n (length l)) l ≡ drop n l
-drop_min n l = list.drop_min n l
 
 -- what `&t[a..]` holds
 pub rest_of_lem : (t : List ℕ) (a : ℕ) → take (length t - a) (drop a t) ≡ drop a t

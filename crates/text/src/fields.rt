@@ -1,6 +1,6 @@
 // The fields of a line: each is a part of the caller's own bytes.
 ghost use Rattle.std.specs.Prelude.{◌≡◌, ◌≤◌, ◌==◌, length, position};
-ghost use Rattle.text.specs.Fields.{up_to, past, tabs, reads};
+ghost use Rattle.text.specs.Fields.{up_to, past, tabs, reads, edition};
 
 use crate::TAB;
 
@@ -82,4 +82,12 @@ pub fn reads(field: &[u8], text: &[u8]) -> bool
     ensures { result ≡ reads field.now text.now }
 {
     field == text
+}
+
+// Whether a field is the text of the edition.
+#[tactic(auto, unfolding(crate::specs::Fields::edition))]
+pub fn is_edition(field: &[u8]) -> bool
+    ensures { result ≡ reads field.now edition }
+{
+    reads(field, b"CF_96E/11")
 }

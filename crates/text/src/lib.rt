@@ -7,7 +7,7 @@ mod invalid_bytes; // invalid bytes: other than tab and 32 to 126
 mod written_text; // bytes put from a place on, or none of them where they do not fit
 mod written_numbers; // the decimal digits of a number, likewise
 
-pub use fields::{SplitLine, field, reads, rest, split, tab_count};
+pub use fields::{SplitLine, field, is_edition, reads, rest, split, tab_count};
 pub use invalid_bytes::some_invalid;
 pub use numbers::number;
 pub use written_numbers::put_number;
