@@ -1,8 +1,9 @@
 -- The worked examples p1 to p9 as rows of one table, about the definitions that the close uses: p4 to p8 take each year by its case (document 01,
--- Reckoned examples).
-use Rattle.std.specs.Prelude.{Bool, true, false, ◌&&◌, not, cond, List, [], ◌∷◌, ℕ, eqb, ltb}
+-- Reckoned examples). Then K1's level, from its points.
+use Rattle.std.specs.Prelude.{Bool, true, false, ◌&&◌, not, cond, List, [], ◌∷◌, ℕ, ◌+◌, ◌*◌, eqb, ltb}
 use Rattle.std.proofs.Math.Option.{Option, some, none}
-use Rattle.note.specs.Coefficients.{ca_of}
+use Rattle.note.specs.Coefficients.{ca_of, coefficient_c}
+use Rattle.rounding.specs.Points.{rounded, level}
 use Rattle.meaning.specs.Filing.{Filing, Site, site, curve_meter, index_meter, Reading, reading, real}
 use Rattle.meaning.specs.Validity.{curve_valid}
 use Rattle.meaning.specs.Points.{source_at, rounded_point, with_rate}
@@ -54,7 +55,7 @@ unread = plain solar (λ y. false) (λ y w h. none) []
 -- ---- the table
 pub data ExampleValue : Type 0 where
   valid not_valid missing : ExampleValue
-  in_mw : ℕ → ExampleValue
+  in_mw in_w : ℕ → ExampleValue
 
 unfoldable pub validity : Bool → ExampleValue
 validity b = cond b valid not_valid
@@ -86,4 +87,9 @@ examples =
     ∷ row (power (rounded_point (source_at unread 2017 0 0))) (in_mw 142259110)
     -- p9
     ∷ row (in_mw (with_rate (some 500) 880000000)) (in_mw 1760000000)
+    -- K1: its 1,720 points from 2016 to 2020, and the same with R 2016 500
+    ∷ row (in_w (rounded (level (coefficient_c 2025 2) (400 * 880000000 + 440 * 873636364 + 400 * 887272727 + 220 * 950000000 + 260 * 1000000000) 1720)))
+    (in_w 635010)
+    ∷ row (in_w (rounded (level (coefficient_c 2025 2) (400 * 1760000000 + 440 * 873636364 + 400 * 887272727 + 220 * 950000000 + 260 * 1000000000) 1720)))
+    (in_w 778265)
     ∷ []
